@@ -1,0 +1,2 @@
+pub mod DoneWrites
+pub mod Survival

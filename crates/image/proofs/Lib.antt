@@ -1,0 +1,2 @@
+pub mod OneSector
+pub mod Stored

@@ -1,0 +1,3 @@
+pub mod Windows
+pub mod WindowSound
+pub mod OfWindow
