@@ -1,2 +1,3 @@
+pub mod Cuts
 pub mod DoneWrites
 pub mod Survival

@@ -1,0 +1,4 @@
+pub mod TwinCuts
+pub mod Standing
+pub mod Renewing
+pub mod TextLengths
