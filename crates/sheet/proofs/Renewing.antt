@@ -3,7 +3,8 @@
 --     restart-refused      the start after a cut is refused
 --     rewrite-refused      the rewriting is refused
 --     renewed              it is done, and what stands was read back
-use mathlib.Core.Path.{_≡_, refl, subst}
+--     left-written         both copies hold the new sheet where there was no cut
+use mathlib.Core.Path.{_≡_, refl, sym, subst}
 use mathlib.Core.List.{List}
 use Prim.Native.Nat.{ℕ, _≤_}
 use native.Mathlib.Omega.{arith}
@@ -14,7 +15,7 @@ use Rattle.disk.specs.Faults.{refusalOf}
 use Rattle.disk.specs.Rules.{Starts}
 use Rattle.disk.specs.declared.faults.Fault.{Fault}
 use Rattle.disk.specs.declared.faults.Fault.the-variants.{PowerOff, Unreadable, NoSuchSector}
-use Rattle.sheet.specs.Twins.{Both, Standing, on-first, Stands, new-stands, WritesBoth, Rewrites, Renewed}
+use Rattle.sheet.specs.Twins.{Both, Standing, on-first, Stands, new-stands, WritesBoth, Rewrites, Renewed, Leaves}
 use Rattle.sheet.specs.declared.twins.Renewal.{Renewal}
 use Rattle.sheet.specs.declared.twins.Renewal.the-variants.{Written, Cut}
 use Rattle.sheet.proofs.Standing.{same-sectors, one-standing, fetched}
@@ -44,3 +45,7 @@ module _ (first second : ℕ) (new : List ℕ) where
       → Renewed old new (Ok how) got
   renewed old got d m s Written h both stands = one-standing first second m s first got new stands (on-first refl (h .0))
   renewed old got d m s (Cut t) h both stands = fetched first second old new got m s stands (h old both)
+
+  pub left-written : (d m e : DiskState) (how : Renewal) → Rewrites first second new d (Ok how) m → e ≡ m → Leaves first second new (Ok how) e
+  left-written d m e Written h same = subst (λ (x : DiskState). Both first second new x) (sym same) h
+  left-written d m e (Cut s) h same = tt

@@ -5,6 +5,7 @@
 --     WritesBoth   both are written, or, if both held an old sheet, the old one or the new one stands
 --     Rewrites     the same, where a disk whose power failed is started again
 --     Fetches      what stands is read; refused, nothing changes but the power
+--     Leaves       a renewal without a cut leaves the new sheet on both copies
 --     Renews       if both copies, two apart, held an old sheet: the old or the new one was read back, or 9; and one of them stands
 use Prim.Native.Nat.{ℕ, _+_, _≤_}
 use mathlib.Core.Path.{_≡_}
@@ -64,3 +65,8 @@ Renewed old new (Err x) back = numberOf x ≡ 9
 
 abbrev pub Renews : ℕ → ℕ → List ℕ → DiskState → Result Renewal Refusal → DiskState → List ℕ → Type 0
 Renews first second new d r e back = first + 2 ≤ second → (old : List ℕ) → Both first second old d → Renewed old new r back × Stands first second old new e
+
+abbrev pub Leaves : ℕ → ℕ → List ℕ → Result Renewal Refusal → DiskState → Type 0
+Leaves first second new (Ok Written) e = Both first second new e
+Leaves first second new (Ok (Cut s)) e = Unit {0}
+Leaves first second new (Err x) e = Unit {0}

@@ -4,7 +4,7 @@ ghost use mathlib.Core.List.{List};
 ghost use Prim.Native.Nat.{ℕ, _+_, _≤_, _<_};
 ghost use Rattle.std.specs.declared.result.Result.the-variants.{Err};
 ghost use Rattle.refusal.specs.declared.Refusal.the-variants.{BadNumbers};
-ghost use Rattle.sheet.specs.Twins.{Both, Stands, WritesBoth, Rewrites, Fetches, Renews};
+ghost use Rattle.sheet.specs.Twins.{Both, Stands, WritesBoth, Rewrites, Fetches, Renews, Leaves};
 use disk::disks::Disk;
 use disk::faults::Fault;
 use disk::faults::RefusalFromFault;
@@ -84,6 +84,7 @@ pub fn renew<D: Disk>(
     back: &mut [u8; 512],
 ) -> Result<Renewal, Refusal>
     ensures law { λ r. ⌜ Renews first second (now (sheet .entry)) (state (now (disk .entry))) r (state (now (disk .exit))) (now (back .exit)) ⌝ }
+    ensures written { λ r. ⌜ Leaves first second (now (sheet .entry)) r (state (now (disk .exit))) ⌝ }
     ensures near { λ r. ⌜ (second < first + 2 → (r ≡ Err BadNumbers) × (now (disk .exit) ≡ now (disk .entry)) × (now (back .exit) ≡ now (back .entry))) ⌝ }
     ensures same { λ _. ⌜ layers (now (disk .exit)) ≡ layers (now (disk .entry)) ⌝ }
 {

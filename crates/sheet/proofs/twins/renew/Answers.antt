@@ -7,9 +7,9 @@ use Rattle.refusal.specs.declared.Refusal.{Refusal}
 use Rattle.disk.specs.Sectors.{DiskState}
 use Rattle.disk.specs.Faults.{refusalOf}
 use Rattle.sheet.specs.declared.twins.Renewal.{Renewal}
-use Rattle.sheet.specs.Twins.{Renewed}
+use Rattle.sheet.specs.Twins.{Renewed, Leaves}
 use Rattle.sheet.proofs.Standing.{same-sectors, unfetched}
-use Rattle.sheet.proofs.Renewing.{rewrite-refused, rewritten, renewed}
+use Rattle.sheet.proofs.Renewing.{rewrite-refused, rewritten, renewed, left-written}
 use Rattle.sheet.proofs.twins.renew.Needs as need
 
 pub returns-in-Break-renewal : need.returns-in-Break-renewal
@@ -25,6 +25,7 @@ returns-in-Break-renewal g c =
       law = λ apart old both.
           let refused = rewrite-refused (c .args .first) (c .args .second) new old d e x (c .in-Break-renewal .ensures tt .rule) both in
           (subst (λ (r : Result Renewal Refusal). Renewed old new r (c .args .back .now)) (sym told) (refused .0), refused .1);
+      written = subst (λ (r : Result Renewal Refusal). Leaves (c .args .first) (c .args .second) new r e) (sym told) tt;
       near = λ close. absurd (omega arith);
       same = c .in-Break-renewal .ensures tt .same;
     }
@@ -45,6 +46,7 @@ returns-in-Break-fetch g c =
           let stands = rewritten (c .args .first) (c .args .second) new old d m (c .in-Continue-renewal .renewal) (done .rule) both in
           let refused = unfetched (c .args .first) (c .args .second) old new m e x (c .in-Break-fetch .ensures tt .rule .1) stands in
           (subst (λ (r : Result Renewal Refusal). Renewed old new r (c .fetch .last .back)) (sym told) (refused .0), refused .1);
+      written = subst (λ (r : Result Renewal Refusal). Leaves (c .args .first) (c .args .second) new r e) (sym told) tt;
       near = λ close. absurd (omega arith);
       same = c .in-Break-fetch .ensures tt .same ∙ done .same;
     }
@@ -66,6 +68,7 @@ returns g c =
         renewed first second new old (c .fetch .last .back) d m (c .in-Continue-fetch .field-0) how (done .rule) both (got .rule .0),
         same-sectors first second old new m e (ap (λ (x : DiskState). x .sectors) (got .rule .1)) (rewritten first second new old d m how (done .rule) both),
       );
+      written = left-written first second new d m e how (done .rule) (got .rule .1);
       near = λ close. absurd (omega arith);
       same = got .same ∙ done .same;
     }
