@@ -43,12 +43,12 @@ impl<D: Spoilable> Failing<D> {
         ensures { λ r. ⌜ r ≡ belowOf self ⌝ }
     {
         let Failing {
-            below,
+            below: disk,
             left: _,
             manner: _,
             off: _,
         } = self;
-        below
+        disk
     }
 
     // Whether the power fails in the next call that could be carried out.

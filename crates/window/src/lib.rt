@@ -47,11 +47,11 @@ impl<D: Disk> Window<D> {
         ensures { λ r. ⌜ r ≡ belowOf self ⌝ }
     {
         let Window {
-            below,
+            below: disk,
             first: _,
             length: _,
         } = self;
-        below
+        disk
     }
 
     // The sector to ask the disk below for. For a sector that is not in the window it is one that the disk below does not have, so that this answers 9 or 16 by itself.
