@@ -1,5 +1,16 @@
 // The bytes of images, before a test and after it.
 
+/// Makes each sector readable, and sector `s` hold `s + 1` in each byte.
+pub fn put_sectors(bytes: &mut [u8]) {
+    for i in 0..bytes.len() {
+        bytes[i] = if i % 513 == 0 {
+            0
+        } else {
+            (i / 513 % 255 + 1) as u8
+        };
+    }
+}
+
 // The byte that a tail has at `i`.
 fn tail_byte(i: usize) -> u8 {
     (i % 251) as u8

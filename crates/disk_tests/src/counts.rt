@@ -1,13 +1,8 @@
 // How many sectors an image has.
 use crate::bytes::count_tail;
 use crate::bytes::put_tail;
-use crate::scripts::Answer::Done;
-use crate::scripts::Answer::Holds;
-use crate::scripts::Answer::Refused;
-use crate::scripts::Answer::Sectors;
-use crate::scripts::Call::Count;
-use crate::scripts::Call::Read;
-use crate::scripts::Call::Write;
+use crate::scripts::Answer::*;
+use crate::scripts::Call::*;
 use crate::scripts::play;
 use image::Image;
 use image::ImageDisk;

@@ -6,7 +6,7 @@ use disk::faults::Fault;
 use std::test::*;
 
 /// A call of a disk. A write is of 512 equal bytes.
-#[derive(Clone, Copy, PartialEq, Eq, Debug)]
+#[derive(Clone, Copy)]
 pub enum Call {
     Count,
     Start,
@@ -29,8 +29,8 @@ pub enum Answer {
 // What the caller's 512 bytes are before a read.
 const BEFORE: u8 = 0xee;
 
-/// The answer to a call other than count and read.
-pub fn answer_of(result: Result<(), Fault>) -> Answer {
+// The answer to a call other than count and read.
+fn answer_of(result: Result<(), Fault>) -> Answer {
     match result {
         Ok(()) => Answer::Done,
         Err(fault) => {
@@ -69,4 +69,9 @@ pub fn play<D: Spoilable>(disk: &mut D, script: &[(Call, Answer)]) -> Result<(),
         check_eq(ask(disk, call), answer).note(i)?;
     }
     Ok(())
+}
+
+/// Checks the answer to a call other than count.
+pub fn check_answer(result: Result<(), Fault>, answer: Answer) -> Result<(), Fail> {
+    check_eq(answer_of(result), answer)
 }
