@@ -1,12 +1,13 @@
 // A power that fails in a chosen call, over three sectors that hold 1, 2 and 3.
 use crate::bytes::put_sectors;
+use crate::kinds::on_failing;
+use crate::kinds::on_image;
+use crate::kinds::with_failing;
+use crate::kinds::with_window;
 use crate::scripts::Answer;
 use crate::scripts::Answer::*;
 use crate::scripts::Call;
 use crate::scripts::Call::*;
-use crate::scripts::play;
-use disk::lent::LentDisk;
-use disk::lent::LentSpoilable;
 use failing::failing::Failing;
 use failing::failing::FailingDisk;
 use failing::failing::FailingSpoilable;
@@ -23,8 +24,7 @@ use window::WindowSpoilable;
 fn failing(calls: u32, manner: Manner, script: &[(Call, Answer)]) -> Result<(), Fail> {
     let mut bytes = [0; 1539];
     put_sectors(&mut bytes);
-    let mut disk = Failing::new(Image::new(&mut bytes), calls, manner);
-    play(&mut disk, script)
+    on_failing(&mut bytes, true, calls, manner, script, &[])
 }
 
 // Checks what the sectors are after the power failed in a write of 9 to one of them.
@@ -46,121 +46,39 @@ fn leaves(manner: Manner, sector: u32, left: [Answer; 3]) -> Result<(), Fail> {
     )
 }
 
+// Sectors that are unreadable.
 const BAD_0: Answer = Refused(10, Some(0));
 
 const BAD_1: Answer = Refused(10, Some(1));
 
 const BAD_2: Answer = Refused(10, Some(2));
 
-#[test]
-fn as_before() -> Result<(), Fail> {
-    let same = [Holds(1), Holds(2), Holds(3)];
-    leaves(Manner::AsBefore, 0, same)?;
-    leaves(Manner::AsBefore, 1, same)?;
-    leaves(Manner::AsBefore, 2, same)
-}
+// A manner, the sector written, and what the three sectors are then.
+const LEFT: [(Manner, u32, [Answer; 3]); 15] = [
+    (Manner::AsBefore, 0, [Holds(1), Holds(2), Holds(3)]),
+    (Manner::AsBefore, 1, [Holds(1), Holds(2), Holds(3)]),
+    (Manner::AsBefore, 2, [Holds(1), Holds(2), Holds(3)]),
+    (Manner::NewBytes, 0, [Holds(9), Holds(2), Holds(3)]),
+    (Manner::NewBytes, 1, [Holds(1), Holds(9), Holds(3)]),
+    (Manner::NewBytes, 2, [Holds(1), Holds(2), Holds(9)]),
+    (Manner::Own, 0, [BAD_0, Holds(2), Holds(3)]),
+    (Manner::Own, 1, [Holds(1), BAD_1, Holds(3)]),
+    (Manner::Own, 2, [Holds(1), Holds(2), BAD_2]),
+    (Manner::OwnAndBelow, 0, [BAD_0, Holds(2), Holds(3)]),
+    (Manner::OwnAndBelow, 1, [BAD_0, BAD_1, Holds(3)]),
+    (Manner::OwnAndBelow, 2, [Holds(1), BAD_1, BAD_2]),
+    (Manner::OwnAndAbove, 0, [BAD_0, BAD_1, Holds(3)]),
+    (Manner::OwnAndAbove, 1, [Holds(1), BAD_1, BAD_2]),
+    (Manner::OwnAndAbove, 2, [Holds(1), Holds(2), BAD_2]),
+];
 
 #[test]
-fn new_bytes() -> Result<(), Fail> {
-    leaves(Manner::NewBytes, 0, [Holds(9), Holds(2), Holds(3)])?;
-    leaves(Manner::NewBytes, 1, [Holds(1), Holds(9), Holds(3)])?;
-    leaves(Manner::NewBytes, 2, [Holds(1), Holds(2), Holds(9)])
-}
-
-#[test]
-fn own() -> Result<(), Fail> {
-    leaves(Manner::Own, 0, [BAD_0, Holds(2), Holds(3)])?;
-    leaves(Manner::Own, 1, [Holds(1), BAD_1, Holds(3)])?;
-    leaves(Manner::Own, 2, [Holds(1), Holds(2), BAD_2])
-}
-
-#[test]
-fn own_and_below() -> Result<(), Fail> {
-    leaves(Manner::OwnAndBelow, 0, [BAD_0, Holds(2), Holds(3)])?;
-    leaves(Manner::OwnAndBelow, 1, [BAD_0, BAD_1, Holds(3)])?;
-    leaves(Manner::OwnAndBelow, 2, [Holds(1), BAD_1, BAD_2])
-}
-
-#[test]
-fn own_and_above() -> Result<(), Fail> {
-    leaves(Manner::OwnAndAbove, 0, [BAD_0, BAD_1, Holds(3)])?;
-    leaves(Manner::OwnAndAbove, 1, [Holds(1), BAD_1, BAD_2])?;
-    leaves(Manner::OwnAndAbove, 2, [Holds(1), Holds(2), BAD_2])
-}
-
-#[test]
-fn a_chosen_start_fails() -> Result<(), Fail> {
-    failing(
-        1,
-        Manner::Own,
-        &[
-            (Write(1, 9), Done),
-            (Start, Refused(9, Some(0))),
-            (Read(1), Refused(9, Some(1))),
-            (Read(3), Refused(9, Some(3))),
-            (Count, Sectors(3)),
-            (Start, Done),
-            (Read(0), Holds(1)),
-            (Read(1), Holds(9)),
-            (Read(2), Holds(3)),
-        ],
-    )
-}
-
-#[test]
-fn a_chosen_read_fails() -> Result<(), Fail> {
-    failing(
-        2,
-        Manner::Own,
-        &[
-            (Start, Done),
-            (Write(0, 9), Done),
-            (Read(1), Refused(9, Some(1))),
-            (Write(2, 9), Refused(9, Some(2))),
-            (Start, Done),
-            (Read(0), Holds(9)),
-            (Read(1), Holds(2)),
-            (Read(2), Holds(3)),
-        ],
-    )
-}
-
-#[test]
-fn refused_calls_do_not_count() -> Result<(), Fail> {
-    failing(
-        1,
-        Manner::Own,
-        &[
-            (Read(3), Refused(16, None)),
-            (Write(3, 9), Refused(16, None)),
-            (Spoil(1), Done),
-            (Read(1), Refused(10, Some(1))),
-            (Read(0), Holds(1)),
-            (Read(3), Refused(16, None)),
-            (Write(3, 9), Refused(16, None)),
-            (Read(1), Refused(10, Some(1))),
-            (Read(0), Refused(9, Some(0))),
-        ],
-    )
-}
-
-#[test]
-fn calls_with_power_off_do_not_count() -> Result<(), Fail> {
-    let mut bytes = [0; 1539];
-    put_sectors(&mut bytes);
-    let mut image = Image::new(&mut bytes);
-    image.switch_off();
-    let mut disk = Failing::new(image, 1, Manner::NewBytes);
-    play(
-        &mut disk,
-        &[
-            (Read(0), Refused(9, Some(0))),
-            (Write(3, 9), Refused(9, Some(3))),
-            (Start, Done),
-            (Write(2, 9), Refused(9, Some(2))),
-        ],
-    )?;
-    play(&mut disk.into_below(), &[(Read(2), Holds(9))])
+fn each_manner_at_each_sector() -> Result<(), Fail> {
+    for i in 0..15 {
+        let (manner, sector, left) = LEFT[i];
+        leaves(manner, sector, left).note(i)?;
+    }
+    Ok(())
 }
 
 #[test]
@@ -187,7 +105,83 @@ fn a_spoiled_sector_is_cut_as_any_other() -> Result<(), Fail> {
     )
 }
 
-// The script of a cut at the first sector of a window that has one.
+#[test]
+fn a_chosen_start() -> Result<(), Fail> {
+    failing(
+        1,
+        Manner::Own,
+        &[
+            (Write(1, 9), Done),
+            (Start, Refused(9, Some(0))),
+            (Read(1), Refused(9, Some(1))),
+            (Read(3), Refused(9, Some(3))),
+            (Count, Sectors(3)),
+            (Start, Done),
+            (Read(0), Holds(1)),
+            (Read(1), Holds(9)),
+            (Read(2), Holds(3)),
+        ],
+    )
+}
+
+#[test]
+fn a_chosen_read() -> Result<(), Fail> {
+    failing(
+        2,
+        Manner::Own,
+        &[
+            (Start, Done),
+            (Write(0, 9), Done),
+            (Read(1), Refused(9, Some(1))),
+            (Write(2, 9), Refused(9, Some(2))),
+            (Start, Done),
+            (Read(0), Holds(9)),
+            (Read(1), Holds(2)),
+            (Read(2), Holds(3)),
+        ],
+    )
+}
+
+#[test]
+fn refused_calls_do_not_count() -> Result<(), Fail> {
+    failing(
+        1,
+        Manner::Own,
+        &[
+            (Read(3), Refused(16, None)),
+            (Write(3, 9), Refused(16, None)),
+            (Spoil(1), Done),
+            (Read(1), BAD_1),
+            (Read(0), Holds(1)),
+            (Read(3), Refused(16, None)),
+            (Write(3, 9), Refused(16, None)),
+            (Read(1), BAD_1),
+            (Read(0), Refused(9, Some(0))),
+        ],
+    )
+}
+
+#[test]
+fn calls_with_power_off_do_not_count() -> Result<(), Fail> {
+    let mut bytes = [0; 1539];
+    put_sectors(&mut bytes);
+    on_failing(
+        &mut bytes,
+        false,
+        1,
+        Manner::NewBytes,
+        &[
+            (Read(0), Refused(9, Some(0))),
+            (Write(3, 9), Refused(9, Some(3))),
+            (Start, Done),
+            (Write(2, 9), Refused(9, Some(2))),
+            (Read(2), Refused(9, Some(2))),
+        ],
+        &[(Count, Sectors(3)), (Read(2), Holds(9))],
+    )
+}
+
+// A cut at the first sector of a window.
 const CUT: [(Call, Answer); 3] = [
     (Write(0, 9), Refused(9, Some(0))),
     (Start, Done),
@@ -195,27 +189,31 @@ const CUT: [(Call, Answer); 3] = [
 ];
 
 #[test]
-fn a_cut_below_a_window_reaches_past_it() -> Result<(), Fail> {
+fn below_a_window_it_reaches_past_the_window() -> Result<(), Fail> {
     let mut bytes = [0; 1539];
     put_sectors(&mut bytes);
-    let disk = Failing::new(Image::new(&mut bytes), 0, Manner::OwnAndBelow);
-    let mut window = Window::new(disk, 1, 1);
-    play(&mut window, &CUT)?;
-    play(
-        &mut window.into_below(),
+    with_window(
+        Failing::new(Image::new(&mut bytes), 0, Manner::OwnAndBelow),
+        (1, 1),
+        &CUT,
         &[(Read(0), BAD_0), (Read(1), BAD_1), (Read(2), Holds(3))],
     )
 }
 
 #[test]
-fn a_cut_above_a_window_stays_in_it() -> Result<(), Fail> {
+fn above_a_window_it_stays_in_the_window() -> Result<(), Fail> {
     let mut bytes = [0; 1539];
     put_sectors(&mut bytes);
-    let mut image = Image::new(&mut bytes);
-    let mut disk = Failing::new(Window::new(&mut image, 1, 1), 0, Manner::OwnAndBelow);
-    play(&mut disk, &CUT)?;
-    play(
-        &mut image,
+    with_failing(
+        Window::new(Image::new(&mut bytes), 1, 1),
+        0,
+        Manner::OwnAndBelow,
+        &CUT,
+        &[(Count, Sectors(1))],
+    )?;
+    on_image(
+        &mut bytes,
+        true,
         &[(Read(0), Holds(1)), (Read(1), BAD_1), (Read(2), Holds(3))],
     )
 }

@@ -2,29 +2,31 @@
 use crate::bytes::count_tail;
 use crate::bytes::put_sectors;
 use crate::bytes::put_tail;
+use crate::kinds::on_failing;
+use crate::kinds::on_image;
 use crate::scripts::Answer::*;
 use crate::scripts::Call::*;
-use crate::scripts::play;
 use disk::disks::Disk;
+use disk::faults::Fault;
 use disk::faults::FaultDebug;
-use failing::failing::Failing;
-use failing::failing::FailingDisk;
-use failing::failing::FailingSpoilable;
 use failing::manner::Manner;
 use image::Image;
 use image::ImageDisk;
-use image::ImageSpoilable;
 use std::test::*;
+
+// Writes a sector of mixed bytes, and reads it.
+fn write_and_read<D: Disk>(disk: &mut D, sector: u32, found: &mut [u8; 512]) -> Result<(), Fault> {
+    let mut block = [0; 512];
+    put_tail(&mut block, 0);
+    disk.write(sector, &block)?;
+    disk.read(sector, found)
+}
 
 #[test]
 fn a_write_clears_the_mark_and_stores_the_bytes() -> Result<(), Fail> {
     let mut bytes = [5; 1026];
-    let mut block = [0; 512];
-    put_tail(&mut block, 0);
-    let mut image = Image::new(&mut bytes);
-    image.write(1, &block)?;
     let mut found = [0; 512];
-    image.read(1, &mut found)?;
+    write_and_read(&mut Image::new(&mut bytes), 1, &mut found)?;
     check_eq(count_tail(&found, 0), 512)?;
     check_eq(bytes[512], 5)?;
     check_eq(bytes[513], 0)?;
@@ -35,10 +37,11 @@ fn a_write_clears_the_mark_and_stores_the_bytes() -> Result<(), Fail> {
 fn any_mark_but_0_is_unreadable() -> Result<(), Fail> {
     let mut bytes = [0; 1539];
     put_sectors(&mut bytes);
-    bytes[0] = 1;
+    bytes[0] = 2;
     bytes[513] = 255;
-    play(
-        &mut Image::new(&mut bytes),
+    on_image(
+        &mut bytes,
+        true,
         &[
             (Read(0), Refused(10, Some(0))),
             (Read(1), Refused(10, Some(1))),
@@ -51,9 +54,11 @@ fn any_mark_but_0_is_unreadable() -> Result<(), Fail> {
 fn no_call_touches_the_tail() -> Result<(), Fail> {
     let mut bytes = [0; 1126];
     put_tail(&mut bytes, 1026);
-    let mut disk = Failing::new(Image::new(&mut bytes), 2, Manner::OwnAndAbove);
-    play(
-        &mut disk,
+    on_failing(
+        &mut bytes,
+        true,
+        2,
+        Manner::OwnAndAbove,
         &[
             (Write(1, 9), Done),
             (Read(1), Holds(9)),
@@ -64,6 +69,7 @@ fn no_call_touches_the_tail() -> Result<(), Fail> {
             (Start, Done),
             (Read(1), Refused(10, Some(1))),
         ],
+        &[(Write(1, 7), Done)],
     )?;
     check_eq(count_tail(&bytes, 1026), 100)
 }

@@ -8,6 +8,8 @@ mod cuts;
 #[cfg(test)]
 mod images;
 #[cfg(test)]
+mod kinds;
+#[cfg(test)]
 mod refusals;
 #[cfg(test)]
 mod runs;

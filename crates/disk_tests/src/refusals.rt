@@ -1,18 +1,12 @@
 // Refusals: their numbers, places and words, and which of them a disk call has.
-use crate::bytes::count_tail;
 use crate::bytes::put_sectors;
-use crate::bytes::put_tail;
+use crate::kinds::on_image;
 use crate::scripts::Answer;
 use crate::scripts::Answer::*;
+use crate::scripts::Call;
 use crate::scripts::Call::*;
-use crate::scripts::check_answer;
-use crate::scripts::play;
-use disk::disks::Disk;
 use disk::faults::Fault;
 use disk::faults::RefusalFromFault;
-use image::Image;
-use image::ImageDisk;
-use image::ImageSpoilable;
 use refusal::Refusal;
 use refusal::RefusalDebug;
 use refusal::RefusalPartialEq;
@@ -39,12 +33,16 @@ const ALL: [(Refusal, u8, Option<u32>, &str); 17] = [
     (Refusal::VolumeUp, 17, None, "volume up"),
 ];
 
+// Checks a row of the table.
+fn tells(refusal: Refusal, number: u8, place: Option<u32>, words: &str) -> Result<(), Fail> {
+    check_eq((refusal.number(), refusal.place()), (number, place))?;
+    check_eq(refusal.words(), words)
+}
+
 #[test]
 fn numbers_places_and_words() -> Result<(), Fail> {
     for (refusal, number, place, words) in ALL {
-        check_eq(refusal.number(), number)?;
-        check_eq(refusal.place(), place).note(number)?;
-        check_eq(refusal.words(), words).note(number)?;
+        tells(refusal, number, place, words)?;
     }
     Ok(())
 }
@@ -62,46 +60,44 @@ fn faults_are_refusals() -> Result<(), Fail> {
     is(Fault::NoSuchSector, Refusal::NoSuchSector)
 }
 
-// Checks that a read is refused, and that the caller's 512 bytes are as they were.
-fn keeps<D: Disk>(disk: &mut D, sector: u32, answer: Answer) -> Result<(), Fail> {
-    let mut block = [0; 512];
-    put_tail(&mut block, 0);
-    check_answer(disk.read(sector, &mut block), answer)?;
-    check_eq(count_tail(&block, 0), 512)
-}
-
-#[test]
-fn a_refused_read_keeps_the_callers_bytes() -> Result<(), Fail> {
-    let mut bytes = [0; 1026];
-    bytes[513] = 1;
-    let mut image = Image::new(&mut bytes);
-    keeps(&mut image, 1, Refused(10, Some(1)))?;
-    keeps(&mut image, 2, Refused(16, None))?;
-    image.switch_off();
-    keeps(&mut image, 0, Refused(9, Some(0)))
-}
-
-#[test]
-fn power_off_comes_first() -> Result<(), Fail> {
+// Plays a script on two sectors, of which the first holds 1 and the second is unreadable.
+fn two(power: bool, script: &[(Call, Answer)]) -> Result<(), Fail> {
     let mut bytes = [0; 1026];
     put_sectors(&mut bytes);
     bytes[513] = 1;
-    let mut image = Image::new(&mut bytes);
-    image.switch_off();
-    play(
-        &mut image,
+    on_image(&mut bytes, power, script)
+}
+
+#[test]
+fn with_power_on() -> Result<(), Fail> {
+    two(
+        true,
+        &[
+            (Read(0), Holds(1)),
+            (Read(1), Refused(10, Some(1))),
+            (Read(2), Refused(16, None)),
+            (Read(u32::MAX), Refused(16, None)),
+            (Write(2, 9), Refused(16, None)),
+            (Write(1, 9), Done),
+        ],
+    )
+}
+
+#[test]
+fn with_power_off() -> Result<(), Fail> {
+    two(
+        false,
         &[
             (Count, Sectors(2)),
             (Read(0), Refused(9, Some(0))),
             (Read(1), Refused(9, Some(1))),
             (Read(2), Refused(9, Some(2))),
+            (Read(u32::MAX), Refused(9, Some(u32::MAX))),
             (Write(0, 9), Refused(9, Some(0))),
             (Write(2, 9), Refused(9, Some(2))),
             (Start, Done),
             (Read(0), Holds(1)),
             (Read(1), Refused(10, Some(1))),
-            (Read(2), Refused(16, None)),
-            (Write(2, 9), Refused(16, None)),
         ],
     )
 }

@@ -1,33 +1,38 @@
 // A script: disk calls, and the answers that they must have.
+use crate::bytes::count_tail;
 use crate::bytes::is_all;
+use crate::bytes::put_tail;
 use disk::disks::Disk;
 use disk::disks::Spoilable;
 use disk::faults::Fault;
+use disk::runs::write_run;
 use std::test::*;
 
-/// A call of a disk. A write is of 512 equal bytes.
+/// A call on a disk.
 #[derive(Clone, Copy)]
 pub enum Call {
     Count,
     Start,
     Read(u32),
+    /// Of 512 bytes that are all the same.
     Write(u32, u8),
+    /// Of blocks that hold 11, 12, 13 and 14, as many of them as it says.
+    WriteRun(u32, usize),
     Spoil(u32),
 }
 
-/// What a call answers. A refusal has its number and its place.
+/// What a call answers.
 #[derive(Clone, Copy, PartialEq, Eq, Debug)]
 pub enum Answer {
     Sectors(u32),
     Done,
+    /// A read found 512 bytes that are all the same.
     Holds(u8),
-    HoldsUnequal,
+    HoldsMixed,
+    /// The refusal's number and its place. A refused read left the caller's 512 bytes as they were.
     Refused(u8, Option<u32>),
     RefusedAndFilled,
 }
-
-// What the caller's 512 bytes are before a read.
-const BEFORE: u8 = 0xee;
 
 // The answer to a call other than count and read.
 fn answer_of(result: Result<(), Fault>) -> Answer {
@@ -41,15 +46,19 @@ fn answer_of(result: Result<(), Fault>) -> Answer {
 }
 
 fn read<D: Disk>(disk: &mut D, sector: u32) -> Answer {
-    let mut block = [BEFORE; 512];
-    let result = disk.read(sector, &mut block);
-    let first = block[0];
-    match (result.is_ok(), is_all(&block, first)) {
-        (true, true) => Answer::Holds(first),
-        (true, false) => Answer::HoldsUnequal,
-        (false, true) if first == BEFORE => answer_of(result),
-        (false, _) => Answer::RefusedAndFilled,
+    let mut block = [0; 512];
+    put_tail(&mut block, 0);
+    match disk.read(sector, &mut block) {
+        Ok(()) if is_all(&block, block[0]) => Answer::Holds(block[0]),
+        Ok(()) => Answer::HoldsMixed,
+        Err(fault) if count_tail(&block, 0) == 512 => answer_of(Err(fault)),
+        Err(_) => Answer::RefusedAndFilled,
     }
+}
+
+fn run<D: Disk>(disk: &mut D, first: u32, many: usize) -> Answer {
+    let blocks = [[11; 512], [12; 512], [13; 512], [14; 512]];
+    answer_of(write_run(disk, first, &blocks[0..many.min(4)]))
 }
 
 fn ask<D: Spoilable>(disk: &mut D, call: Call) -> Answer {
@@ -58,6 +67,7 @@ fn ask<D: Spoilable>(disk: &mut D, call: Call) -> Answer {
         Call::Start => answer_of(disk.start()),
         Call::Read(sector) => read(disk, sector),
         Call::Write(sector, byte) => answer_of(disk.write(sector, &[byte; 512])),
+        Call::WriteRun(first, many) => run(disk, first, many),
         Call::Spoil(sector) => answer_of(disk.spoil(sector)),
     }
 }
@@ -69,9 +79,4 @@ pub fn play<D: Spoilable>(disk: &mut D, script: &[(Call, Answer)]) -> Result<(),
         check_eq(ask(disk, call), answer).note(i)?;
     }
     Ok(())
-}
-
-/// Checks the answer to a call other than count.
-pub fn check_answer(result: Result<(), Fault>, answer: Answer) -> Result<(), Fail> {
-    check_eq(answer_of(result), answer)
 }

@@ -1,27 +1,28 @@
-// Sectors made unreadable, over three sectors that hold 1, 2 and 3.
+// Sectors made unreadable, among three that hold 1, 2 and 3.
 use crate::bytes::put_sectors;
+use crate::kinds::on_image;
+use crate::kinds::on_lent;
+use crate::kinds::on_window;
 use crate::scripts::Answer;
 use crate::scripts::Answer::*;
 use crate::scripts::Call;
 use crate::scripts::Call::*;
-use crate::scripts::play;
-use disk::disks::Spoilable;
-use disk::lent::LentDisk;
-use disk::lent::LentSpoilable;
-use image::Image;
-use image::ImageDisk;
-use image::ImageSpoilable;
 use std::test::*;
-use window::Window;
-use window::WindowDisk;
-use window::WindowSpoilable;
+
+// What is read where sector 1 was spoiled.
+const SPOILED: [(Call, Answer); 3] = [
+    (Read(0), Holds(1)),
+    (Read(1), Refused(10, Some(1))),
+    (Read(2), Holds(3)),
+];
 
 #[test]
-fn a_write_makes_a_spoiled_sector_readable() -> Result<(), Fail> {
+fn until_it_is_written() -> Result<(), Fail> {
     let mut bytes = [0; 1539];
     put_sectors(&mut bytes);
-    play(
-        &mut Image::new(&mut bytes),
+    on_image(
+        &mut bytes,
+        true,
         &[
             (Spoil(1), Done),
             (Read(0), Holds(1)),
@@ -29,85 +30,67 @@ fn a_write_makes_a_spoiled_sector_readable() -> Result<(), Fail> {
             (Read(2), Holds(3)),
             (Write(1, 9), Done),
             (Read(1), Holds(9)),
-            (Spoil(2), Done),
             (Spoil(3), Refused(16, None)),
             (Spoil(u32::MAX), Refused(16, None)),
+            (Spoil(2), Done),
         ],
     )?;
-    check_eq(bytes[1026], 1)?;
-    check_eq(bytes[1027], 3)
+    check_eq(
+        [bytes[513], bytes[514], bytes[1026], bytes[1027]],
+        [0, 9, 1, 3],
+    )
 }
 
 #[test]
-fn spoils_with_power_off() -> Result<(), Fail> {
+fn with_power_off() -> Result<(), Fail> {
     let mut bytes = [0; 1539];
     put_sectors(&mut bytes);
-    let mut image = Image::new(&mut bytes);
-    image.switch_off();
-    play(
-        &mut image,
+    on_image(
+        &mut bytes,
+        false,
         &[
             (Spoil(1), Done),
             (Spoil(3), Refused(16, None)),
             (Read(1), Refused(9, Some(1))),
             (Start, Done),
-            (Read(0), Holds(1)),
             (Read(1), Refused(10, Some(1))),
-            (Read(2), Holds(3)),
         ],
-    )
+    )?;
+    on_image(&mut bytes, true, &SPOILED)
 }
 
 #[test]
-fn spoils_through_a_window() -> Result<(), Fail> {
+fn through_a_window() -> Result<(), Fail> {
     let mut bytes = [0; 1539];
     put_sectors(&mut bytes);
-    let mut image = Image::new(&mut bytes);
-    play(
-        &mut Window::new(&mut image, 1, 1),
+    on_window(
+        &mut bytes,
+        false,
+        (1, 1),
         &[
             (Spoil(0), Done),
             (Spoil(1), Refused(16, None)),
+            (Start, Done),
             (Read(0), Refused(10, Some(0))),
         ],
-    )?;
-    play(
-        &mut image,
-        &[
-            (Read(0), Holds(1)),
-            (Read(1), Refused(10, Some(1))),
-            (Read(2), Holds(3)),
-        ],
+        &SPOILED,
     )
 }
 
-// Plays a script on a disk by value.
-fn play_owned<D: Spoilable + Drop>(mut disk: D, script: &[(Call, Answer)]) -> Result<(), Fail> {
-    play(&mut disk, script)
-}
-
 #[test]
-fn spoils_through_a_lent_disk() -> Result<(), Fail> {
+fn through_a_lent_disk() -> Result<(), Fail> {
     let mut bytes = [0; 1539];
     put_sectors(&mut bytes);
-    let mut image = Image::new(&mut bytes);
-    play_owned(
-        &mut image,
+    on_lent(
+        &mut bytes,
         &[
             (Count, Sectors(3)),
             (Spoil(1), Done),
             (Spoil(3), Refused(16, None)),
             (Read(1), Refused(10, Some(1))),
-            (Write(2, 9), Done),
+            (Write(0, 1), Done),
             (Start, Done),
         ],
     )?;
-    play(
-        &mut image,
-        &[
-            (Read(0), Holds(1)),
-            (Read(1), Refused(10, Some(1))),
-            (Read(2), Holds(9)),
-        ],
-    )
+    on_image(&mut bytes, true, &SPOILED)
 }

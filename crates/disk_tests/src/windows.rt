@@ -1,11 +1,9 @@
 // Windows over four sectors that hold 1, 2, 3 and 4.
 use crate::bytes::put_sectors;
+use crate::kinds::on_window;
+use crate::kinds::with_window;
 use crate::scripts::Answer::*;
 use crate::scripts::Call::*;
-use crate::scripts::play;
-use disk::disks::Spoilable;
-use disk::lent::LentDisk;
-use disk::lent::LentSpoilable;
 use image::Image;
 use image::ImageDisk;
 use image::ImageSpoilable;
@@ -15,52 +13,59 @@ use window::WindowDisk;
 use window::WindowSpoilable;
 
 // Checks that a window has `count` sectors and no more.
-fn has<D: Spoilable>(disk: &mut D, first: u32, length: u32, count: u32) -> Result<(), Fail> {
-    play(
-        &mut Window::new(disk, first, length),
+fn has(bytes: &mut [u8], part: (u32, u32), count: u32) -> Result<(), Fail> {
+    on_window(
+        bytes,
+        true,
+        part,
         &[
             (Count, Sectors(count)),
             (Read(count), Refused(16, None)),
             (Write(count, 9), Refused(16, None)),
             (Spoil(count), Refused(16, None)),
         ],
+        &[],
     )
 }
 
-// A window's first sector, its length, and how many sectors it has over four.
-const COUNTS: [(u32, u32, u32); 13] = [
-    (0, 0, 0),
-    (0, 1, 1),
-    (0, 4, 4),
-    (0, u32::MAX, 4),
-    (1, 2, 2),
-    (1, 3, 3),
-    (3, 1, 1),
-    (3, 2, 1),
-    (4, 0, 0),
-    (4, 1, 0),
-    (5, 1, 0),
-    (u32::MAX, 1, 0),
-    (u32::MAX, u32::MAX, 0),
+// A window's first sector and its length, and how many sectors it has over four.
+const COUNTS: [((u32, u32), u32); 13] = [
+    ((0, 0), 0),
+    ((0, 1), 1),
+    ((0, 4), 4),
+    ((0, u32::MAX), 4),
+    ((1, 2), 2),
+    ((1, 3), 3),
+    ((3, 1), 1),
+    ((3, 2), 1),
+    ((4, 0), 0),
+    ((4, 1), 0),
+    ((5, 1), 0),
+    ((u32::MAX, 1), 0),
+    ((u32::MAX, u32::MAX), 0),
 ];
 
-#[test]
-fn counts_what_lies_on_the_disk() -> Result<(), Fail> {
-    let mut bytes = [0; 2052];
-    let mut image = Image::new(&mut bytes);
-    for (first, length, count) in COUNTS {
-        has(&mut image, first, length, count).note(first)?;
+fn has_all(bytes: &mut [u8]) -> Result<(), Fail> {
+    for (part, count) in COUNTS {
+        has(bytes, part, count).note(part.0)?;
     }
-    has(&mut Image::new(&mut []), 0, 1, 0)
+    Ok(())
 }
 
 #[test]
-fn sector_i_is_sector_first_and_i() -> Result<(), Fail> {
+fn counts_what_lies_on_the_disk() -> Result<(), Fail> {
+    has_all(&mut [0; 2052])?;
+    has(&mut [], (0, 1), 0)
+}
+
+#[test]
+fn sector_i_is_first_and_i_below() -> Result<(), Fail> {
     let mut bytes = [0; 2052];
     put_sectors(&mut bytes);
-    let mut window = Window::new(Image::new(&mut bytes), 1, 2);
-    play(
-        &mut window,
+    on_window(
+        &mut bytes,
+        true,
+        (1, 2),
         &[
             (Read(0), Holds(2)),
             (Read(1), Holds(3)),
@@ -68,9 +73,6 @@ fn sector_i_is_sector_first_and_i() -> Result<(), Fail> {
             (Write(1, 9), Done),
             (Write(2, 9), Refused(16, None)),
         ],
-    )?;
-    play(
-        &mut window.into_below(),
         &[
             (Count, Sectors(4)),
             (Read(0), Holds(1)),
@@ -82,13 +84,13 @@ fn sector_i_is_sector_first_and_i() -> Result<(), Fail> {
 }
 
 #[test]
-fn has_the_power_of_the_disk_below() -> Result<(), Fail> {
+fn with_power_off() -> Result<(), Fail> {
     let mut bytes = [0; 2052];
     put_sectors(&mut bytes);
-    let mut image = Image::new(&mut bytes);
-    image.switch_off();
-    play(
-        &mut Window::new(&mut image, 1, 2),
+    on_window(
+        &mut bytes,
+        false,
+        (1, 2),
         &[
             (Read(0), Refused(9, Some(0))),
             (Read(2), Refused(9, Some(2))),
@@ -97,35 +99,31 @@ fn has_the_power_of_the_disk_below() -> Result<(), Fail> {
             (Spoil(2), Refused(16, None)),
             (Start, Done),
             (Read(0), Holds(2)),
+            (Read(2), Refused(16, None)),
         ],
-    )?;
-    play(&mut image, &[(Read(3), Holds(4))])
+        &[(Read(3), Holds(4))],
+    )
 }
 
 #[test]
-fn a_window_over_a_window() -> Result<(), Fail> {
+fn over_a_window() -> Result<(), Fail> {
     let mut bytes = [0; 2052];
     put_sectors(&mut bytes);
-    let mut image = Image::new(&mut bytes);
-    let mut inner = Window::new(&mut image, 1, 2);
-    play(
-        &mut Window::new(&mut inner, 1, 5),
+    with_window(
+        Window::new(Image::new(&mut bytes), 1, 2),
+        (1, 5),
         &[
             (Count, Sectors(1)),
             (Read(0), Holds(3)),
             (Read(1), Refused(16, None)),
             (Write(0, 9), Done),
             (Write(1, 9), Refused(16, None)),
-            (Spoil(0), Done),
-            (Read(0), Refused(10, Some(0))),
         ],
-    )?;
-    play(
-        &mut inner,
-        &[(Read(0), Holds(2)), (Read(1), Refused(10, Some(1)))],
-    )?;
-    play(
-        &mut image,
-        &[(Read(2), Refused(10, Some(2))), (Read(3), Holds(4))],
+        &[
+            (Count, Sectors(2)),
+            (Read(0), Holds(2)),
+            (Read(1), Holds(9)),
+            (Read(2), Refused(16, None)),
+        ],
     )
 }
