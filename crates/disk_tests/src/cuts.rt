@@ -1,9 +1,9 @@
 // A power that fails in a chosen call, over three sectors that hold 1, 2 and 3.
 use crate::bytes::put_sectors;
 use crate::kinds::on_failing;
+use crate::kinds::on_failing_over;
 use crate::kinds::on_image;
-use crate::kinds::with_failing;
-use crate::kinds::with_window;
+use crate::kinds::on_window_over;
 use crate::scripts::Answer;
 use crate::scripts::Answer::*;
 use crate::scripts::Call;
@@ -27,25 +27,6 @@ fn failing(calls: u32, manner: Manner, script: &[(Call, Answer)]) -> Result<(), 
     on_failing(&mut bytes, true, calls, manner, script, &[])
 }
 
-// Checks what the sectors are after the power failed in a write of 9 to one of them.
-fn leaves(manner: Manner, sector: u32, left: [Answer; 3]) -> Result<(), Fail> {
-    failing(
-        0,
-        manner,
-        &[
-            (Write(sector, 9), Refused(9, Some(sector))),
-            (Read(sector), Refused(9, Some(sector))),
-            (Write(sector, 8), Refused(9, Some(sector))),
-            (Start, Done),
-            (Read(0), left[0]),
-            (Read(1), left[1]),
-            (Read(2), left[2]),
-            (Write(sector, 7), Done),
-            (Read(sector), Holds(7)),
-        ],
-    )
-}
-
 // Sectors that are unreadable.
 const BAD_0: Answer = Refused(10, Some(0));
 
@@ -54,7 +35,9 @@ const BAD_1: Answer = Refused(10, Some(1));
 const BAD_2: Answer = Refused(10, Some(2));
 
 // A manner, the sector written, and what the three sectors are then.
-const LEFT: [(Manner, u32, [Answer; 3]); 15] = [
+type Row = (Manner, u32, [Answer; 3]);
+
+const ALL: [Row; 15] = [
     (Manner::AsBefore, 0, [Holds(1), Holds(2), Holds(3)]),
     (Manner::AsBefore, 1, [Holds(1), Holds(2), Holds(3)]),
     (Manner::AsBefore, 2, [Holds(1), Holds(2), Holds(3)]),
@@ -72,13 +55,35 @@ const LEFT: [(Manner, u32, [Answer; 3]); 15] = [
     (Manner::OwnAndAbove, 2, [Holds(1), Holds(2), BAD_2]),
 ];
 
-#[test]
-fn each_manner_at_each_sector() -> Result<(), Fail> {
-    for i in 0..15 {
-        let (manner, sector, left) = LEFT[i];
-        leaves(manner, sector, left).note(i)?;
+// Checks what a write of 9 leaves.
+fn check_row((manner, sector, left): Row) -> Result<(), Fail> {
+    failing(
+        0,
+        manner,
+        &[
+            (Write(sector, 9), Refused(9, Some(sector))),
+            (Read(sector), Refused(9, Some(sector))),
+            (Write(sector, 8), Refused(9, Some(sector))),
+            (Start, Done),
+            (Read(0), left[0]),
+            (Read(1), left[1]),
+            (Read(2), left[2]),
+            (Write(sector, 7), Done),
+            (Read(sector), Holds(7)),
+        ],
+    )
+}
+
+fn check_rows(rows: &[Row]) -> Result<(), Fail> {
+    for i in 0..rows.len() {
+        check_row(rows[i]).note(i)?;
     }
     Ok(())
+}
+
+#[test]
+fn each_manner_at_each_sector() -> Result<(), Fail> {
+    check_rows(&ALL)
 }
 
 #[test]
@@ -176,8 +181,9 @@ fn calls_with_power_off_do_not_count() -> Result<(), Fail> {
             (Start, Done),
             (Write(2, 9), Refused(9, Some(2))),
             (Read(2), Refused(9, Some(2))),
+            (Spoil(0), Done),
         ],
-        &[(Count, Sectors(3)), (Read(2), Holds(9))],
+        &[(Read(0), BAD_0), (Read(1), Holds(2)), (Read(2), Holds(9))],
     )
 }
 
@@ -192,7 +198,7 @@ const CUT: [(Call, Answer); 3] = [
 fn below_a_window_it_reaches_past_the_window() -> Result<(), Fail> {
     let mut bytes = [0; 1539];
     put_sectors(&mut bytes);
-    with_window(
+    on_window_over(
         Failing::new(Image::new(&mut bytes), 0, Manner::OwnAndBelow),
         (1, 1),
         &CUT,
@@ -204,7 +210,7 @@ fn below_a_window_it_reaches_past_the_window() -> Result<(), Fail> {
 fn above_a_window_it_stays_in_the_window() -> Result<(), Fail> {
     let mut bytes = [0; 1539];
     put_sectors(&mut bytes);
-    with_failing(
+    on_failing_over(
         Window::new(Image::new(&mut bytes), 1, 1),
         0,
         Manner::OwnAndBelow,

@@ -28,8 +28,7 @@ fn a_write_clears_the_mark_and_stores_the_bytes() -> Result<(), Fail> {
     let mut found = [0; 512];
     write_and_read(&mut Image::new(&mut bytes), 1, &mut found)?;
     check_eq(count_tail(&found, 0), 512)?;
-    check_eq(bytes[512], 5)?;
-    check_eq(bytes[513], 0)?;
+    check_eq([bytes[512], bytes[513]], [5, 0])?;
     check_eq(count_tail(&bytes[514..1026], 0), 512)
 }
 

@@ -43,7 +43,7 @@ pub fn on_lent(bytes: &mut [u8], script: &[(Call, Answer)]) -> Result<(), Fail> 
 }
 
 /// Plays a script on a window over a disk, and then one on the disk that the window gives back.
-pub fn with_window<D: Spoilable + Drop>(
+pub fn on_window_over<D: Spoilable + Drop>(
     disk: D,
     (first, length): (u32, u32),
     script: &[(Call, Answer)],
@@ -62,11 +62,11 @@ pub fn on_window(
     script: &[(Call, Answer)],
     below: &[(Call, Answer)],
 ) -> Result<(), Fail> {
-    with_window(image_of(bytes, power), part, script, below)
+    on_window_over(image_of(bytes, power), part, script, below)
 }
 
 /// Plays a script on a disk whose power fails after `calls` calls, and then one on the disk below, given back.
-pub fn with_failing<D: Spoilable + Drop>(
+pub fn on_failing_over<D: Spoilable + Drop>(
     disk: D,
     calls: u32,
     manner: Manner,
@@ -87,5 +87,5 @@ pub fn on_failing(
     script: &[(Call, Answer)],
     below: &[(Call, Answer)],
 ) -> Result<(), Fail> {
-    with_failing(image_of(bytes, power), calls, manner, script, below)
+    on_failing_over(image_of(bytes, power), calls, manner, script, below)
 }

@@ -12,8 +12,10 @@ use refusal::RefusalDebug;
 use refusal::RefusalPartialEq;
 use std::test::*;
 
-// Each refusal with its number, its place and its words.
-const ALL: [(Refusal, u8, Option<u32>, &str); 17] = [
+// A refusal, its number, its place and its words.
+type Row = (Refusal, u8, Option<u32>, &'static str);
+
+const ALL: [Row; 17] = [
     (Refusal::VolumeDown, 1, None, "volume down"),
     (Refusal::BadName, 2, None, "bad name"),
     (Refusal::TooLong, 3, None, "too long"),
@@ -33,18 +35,21 @@ const ALL: [(Refusal, u8, Option<u32>, &str); 17] = [
     (Refusal::VolumeUp, 17, None, "volume up"),
 ];
 
-// Checks a row of the table.
-fn tells(refusal: Refusal, number: u8, place: Option<u32>, words: &str) -> Result<(), Fail> {
+fn check_row((refusal, number, place, words): Row) -> Result<(), Fail> {
     check_eq((refusal.number(), refusal.place()), (number, place))?;
     check_eq(refusal.words(), words)
 }
 
-#[test]
-fn numbers_places_and_words() -> Result<(), Fail> {
-    for (refusal, number, place, words) in ALL {
-        tells(refusal, number, place, words)?;
+fn check_rows(rows: &[Row]) -> Result<(), Fail> {
+    for i in 0..rows.len() {
+        check_row(rows[i])?;
     }
     Ok(())
+}
+
+#[test]
+fn numbers_places_and_words() -> Result<(), Fail> {
+    check_rows(&ALL)
 }
 
 // Checks which refusal a fault is.

@@ -1,7 +1,7 @@
 // Windows over four sectors that hold 1, 2, 3 and 4.
 use crate::bytes::put_sectors;
 use crate::kinds::on_window;
-use crate::kinds::with_window;
+use crate::kinds::on_window_over;
 use crate::scripts::Answer::*;
 use crate::scripts::Call::*;
 use image::Image;
@@ -29,7 +29,9 @@ fn has(bytes: &mut [u8], part: (u32, u32), count: u32) -> Result<(), Fail> {
 }
 
 // A window's first sector and its length, and how many sectors it has over four.
-const COUNTS: [((u32, u32), u32); 13] = [
+type Row = ((u32, u32), u32);
+
+const ALL: [Row; 13] = [
     ((0, 0), 0),
     ((0, 1), 1),
     ((0, 4), 4),
@@ -45,16 +47,17 @@ const COUNTS: [((u32, u32), u32); 13] = [
     ((u32::MAX, u32::MAX), 0),
 ];
 
-fn has_all(bytes: &mut [u8]) -> Result<(), Fail> {
-    for (part, count) in COUNTS {
-        has(bytes, part, count).note(part.0)?;
+fn check_rows(bytes: &mut [u8], rows: &[Row]) -> Result<(), Fail> {
+    for i in 0..rows.len() {
+        let (part, count) = rows[i];
+        has(bytes, part, count).note(i)?;
     }
     Ok(())
 }
 
 #[test]
 fn counts_what_lies_on_the_disk() -> Result<(), Fail> {
-    has_all(&mut [0; 2052])?;
+    check_rows(&mut [0; 2052], &ALL)?;
     has(&mut [], (0, 1), 0)
 }
 
@@ -109,7 +112,7 @@ fn with_power_off() -> Result<(), Fail> {
 fn over_a_window() -> Result<(), Fail> {
     let mut bytes = [0; 2052];
     put_sectors(&mut bytes);
-    with_window(
+    on_window_over(
         Window::new(Image::new(&mut bytes), 1, 2),
         (1, 5),
         &[
