@@ -35,28 +35,28 @@ const BAD_1: Answer = Refused(10, Some(1));
 const BAD_2: Answer = Refused(10, Some(2));
 
 // A manner, the sector written, and what the three sectors are then.
-type Row = (Manner, u32, [Answer; 3]);
+type Row = (Manner, u32, Answer, Answer, Answer);
 
 const ALL: [Row; 15] = [
-    (Manner::AsBefore, 0, [Holds(1), Holds(2), Holds(3)]),
-    (Manner::AsBefore, 1, [Holds(1), Holds(2), Holds(3)]),
-    (Manner::AsBefore, 2, [Holds(1), Holds(2), Holds(3)]),
-    (Manner::NewBytes, 0, [Holds(9), Holds(2), Holds(3)]),
-    (Manner::NewBytes, 1, [Holds(1), Holds(9), Holds(3)]),
-    (Manner::NewBytes, 2, [Holds(1), Holds(2), Holds(9)]),
-    (Manner::Own, 0, [BAD_0, Holds(2), Holds(3)]),
-    (Manner::Own, 1, [Holds(1), BAD_1, Holds(3)]),
-    (Manner::Own, 2, [Holds(1), Holds(2), BAD_2]),
-    (Manner::OwnAndBelow, 0, [BAD_0, Holds(2), Holds(3)]),
-    (Manner::OwnAndBelow, 1, [BAD_0, BAD_1, Holds(3)]),
-    (Manner::OwnAndBelow, 2, [Holds(1), BAD_1, BAD_2]),
-    (Manner::OwnAndAbove, 0, [BAD_0, BAD_1, Holds(3)]),
-    (Manner::OwnAndAbove, 1, [Holds(1), BAD_1, BAD_2]),
-    (Manner::OwnAndAbove, 2, [Holds(1), Holds(2), BAD_2]),
+    (Manner::AsBefore, 0, Holds(1), Holds(2), Holds(3)),
+    (Manner::AsBefore, 1, Holds(1), Holds(2), Holds(3)),
+    (Manner::AsBefore, 2, Holds(1), Holds(2), Holds(3)),
+    (Manner::NewBytes, 0, Holds(9), Holds(2), Holds(3)),
+    (Manner::NewBytes, 1, Holds(1), Holds(9), Holds(3)),
+    (Manner::NewBytes, 2, Holds(1), Holds(2), Holds(9)),
+    (Manner::Own, 0, BAD_0, Holds(2), Holds(3)),
+    (Manner::Own, 1, Holds(1), BAD_1, Holds(3)),
+    (Manner::Own, 2, Holds(1), Holds(2), BAD_2),
+    (Manner::OwnAndBelow, 0, BAD_0, Holds(2), Holds(3)),
+    (Manner::OwnAndBelow, 1, BAD_0, BAD_1, Holds(3)),
+    (Manner::OwnAndBelow, 2, Holds(1), BAD_1, BAD_2),
+    (Manner::OwnAndAbove, 0, BAD_0, BAD_1, Holds(3)),
+    (Manner::OwnAndAbove, 1, Holds(1), BAD_1, BAD_2),
+    (Manner::OwnAndAbove, 2, Holds(1), Holds(2), BAD_2),
 ];
 
 // Checks what a write of 9 leaves.
-fn check_row((manner, sector, left): Row) -> Result<(), Fail> {
+fn check_row((manner, sector, left_0, left_1, left_2): Row) -> Result<(), Fail> {
     failing(
         0,
         manner,
@@ -65,9 +65,9 @@ fn check_row((manner, sector, left): Row) -> Result<(), Fail> {
             (Read(sector), Refused(9, Some(sector))),
             (Write(sector, 8), Refused(9, Some(sector))),
             (Start, Done),
-            (Read(0), left[0]),
-            (Read(1), left[1]),
-            (Read(2), left[2]),
+            (Read(0), left_0),
+            (Read(1), left_1),
+            (Read(2), left_2),
             (Write(sector, 7), Done),
             (Read(sector), Holds(7)),
         ],

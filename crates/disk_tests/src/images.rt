@@ -14,20 +14,20 @@ use image::Image;
 use image::ImageDisk;
 use std::test::*;
 
-// Writes a sector of mixed bytes, and reads it.
-fn write_and_read<D: Disk>(disk: &mut D, sector: u32, found: &mut [u8; 512]) -> Result<(), Fault> {
+// Writes 512 mixed bytes to a sector and reads it: how many bytes are those written.
+fn write_and_read<D: Disk>(disk: &mut D, sector: u32) -> Result<usize, Fault> {
     let mut block = [0; 512];
     put_tail(&mut block, 0);
     disk.write(sector, &block)?;
-    disk.read(sector, found)
+    let mut found = [0; 512];
+    disk.read(sector, &mut found)?;
+    Ok(count_tail(&found, 0))
 }
 
 #[test]
 fn a_write_clears_the_mark_and_stores_the_bytes() -> Result<(), Fail> {
     let mut bytes = [5; 1026];
-    let mut found = [0; 512];
-    write_and_read(&mut Image::new(&mut bytes), 1, &mut found)?;
-    check_eq(count_tail(&found, 0), 512)?;
+    check_eq(write_and_read(&mut Image::new(&mut bytes), 1)?, 512)?;
     check_eq([bytes[512], bytes[513]], [5, 0])?;
     check_eq(count_tail(&bytes[514..1026], 0), 512)
 }
