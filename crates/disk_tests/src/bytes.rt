@@ -3,11 +3,8 @@
 /// Makes each sector readable, and sector `s` hold `s + 1` in each byte.
 pub fn put_sectors(bytes: &mut [u8]) {
     for i in 0..bytes.len() {
-        bytes[i] = if i % 513 == 0 {
-            0
-        } else {
-            (i / 513 % 255 + 1) as u8
-        };
+        let inner = (i / 513 % 255 + 1) as u8;
+        bytes[i] = if i % 513 == 0 { 0 } else { inner };
     }
 }
 

@@ -29,7 +29,6 @@ fn done() -> Result<(), Fail> {
             (Read(0), Holds(11)),
             (Read(1), Holds(12)),
             (Read(2), Holds(13)),
-            (WriteRun(3, 0), Done),
         ],
     )
 }

@@ -53,7 +53,6 @@ fn with_power_off() -> Result<(), Fail> {
             (Spoil(3), Refused(16, None)),
             (Read(1), Refused(9, Some(1))),
             (Start, Done),
-            (Read(1), Refused(10, Some(1))),
         ],
     )?;
     on_image(&mut bytes, true, &SPOILED)

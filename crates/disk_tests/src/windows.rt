@@ -102,7 +102,6 @@ fn with_power_off() -> Result<(), Fail> {
             (Spoil(2), Refused(16, None)),
             (Start, Done),
             (Read(0), Holds(2)),
-            (Read(2), Refused(16, None)),
         ],
         &[(Read(3), Holds(4))],
     )
