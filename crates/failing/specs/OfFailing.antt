@@ -3,7 +3,8 @@
 --     failingState, failingLayers          its state and what no call changes of it
 --     Waits, StartWaits                    a call before the chosen one is the disk below's own, and counts where it is done
 --     Rests                                with the power taken away nothing at all changes
---     Refuses                              a call that is refused with 10 or 16 does not count
+--     Refuses, StartRefuses                a call that the disk below refuses does not count
+--     Spoiled                              spoiling is the disk below's own, and counts for nothing
 --     StartDue, ReadDue, WriteDue          the chosen call, where the disk below could carry it out and keeps its power: 9, power off, by the chosen manner
 use Prim.Native.Nat.{ℕ, _<_}
 use mathlib.Core.Path.{_≡_}
@@ -15,7 +16,7 @@ use Rattle.std.specs.declared.result.Result.the-variants.{Ok, Err}
 use Rattle.disk.specs.Sectors.{DiskState, holds, count, At}
 use Rattle.disk.specs.Layers.{Layers, over}
 use Rattle.disk.specs.Faults.{Answer}
-use Rattle.disk.specs.Rules.{Starts}
+use Rattle.disk.specs.Rules.{Starts, Spoils}
 use Rattle.disk.specs.declared.faults.Fault.the-variants.{PowerOff, Unreadable, NoSuchSector}
 use Rattle.failing.specs.Manners.{leaves, numberOf, isDue, lessOne}
 use Rattle.failing.specs.FailingSound.{cutOff}
@@ -61,9 +62,15 @@ Rests f g = f .off ≡ true → g ≡ f
 
 abbrev pub Refuses : {D : Type 0} → Failing D → Answer → Failing D → Type 0
 Refuses f (Ok _) g = Unit {0}
-Refuses f (Err (PowerOff p)) g = Unit {0}
+Refuses f (Err (PowerOff p)) g = g .off ≡ f .off → g .left ≡ f .left
 Refuses f (Err (Unreadable p)) g = (g .left ≡ f .left) × (g .off ≡ f .off)
 Refuses f (Err NoSuchSector) g = (g .left ≡ f .left) × (g .off ≡ f .off)
+
+abbrev pub StartRefuses : {D : Type 0} → (D → DiskState) → Failing D → Failing D → Type 0
+StartRefuses state f g = state (g .below) .power ≡ false → (g .left ≡ f .left) × (g .off ≡ f .off)
+
+abbrev pub Spoiled : {D : Type 0} → (D → DiskState) → ℕ → Failing D → Answer → Failing D → Type 0
+Spoiled state s f r g = Spoils s (state (f .below)) r (state (g .below)) × (g .left ≡ f .left) × (g .off ≡ f .off)
 
 -- The disk's own failure: it answers 9 for the sector s, and takes the power away for once.
 abbrev pub Fails : {D : Type 0} → ℕ → Answer → Failing D → Type 0

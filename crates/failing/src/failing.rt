@@ -7,7 +7,7 @@ ghost use Rattle.disk.specs.Sectors.{count};
 ghost use Rattle.disk.specs.Rules.{Starts, Reads, Writes, Spoils, Cut};
 ghost use Rattle.failing.specs.Manners.{leaves, isDue, lessOne};
 ghost use Rattle.failing.specs.FailingSound.{failing-sound};
-ghost use Rattle.failing.specs.OfFailing.{belowOf, leftOf, mannerOf, offOf, failingState, failingLayers, Waits, StartWaits, StartDue, ReadDue, WriteDue, Rests, Refuses};
+ghost use Rattle.failing.specs.OfFailing.{belowOf, leftOf, mannerOf, offOf, failingState, failingLayers, Waits, StartWaits, StartDue, ReadDue, WriteDue, Rests, Refuses, StartRefuses, Spoiled};
 use crate::manner::Manner;
 use disk::disks::Disk;
 use disk::disks::Spoilable;
@@ -151,6 +151,7 @@ pub impl<D: Spoilable> Disk for Failing<D> as FailingDisk {
         ensures same { λ _. ⌜ failingLayers (D·Disk .layers) (now (self .exit)) ≡ failingLayers (D·Disk .layers) (now (self .entry)) ⌝ }
         ensures waits { λ r. ⌜ StartWaits (D·Disk .state) (now (self .entry)) r (now (self .exit)) ⌝ }
         ensures due { λ r. ⌜ StartDue (D·Disk .state) (now (self .entry)) r (now (self .exit)) ⌝ }
+        ensures refuses { λ _. ⌜ StartRefuses (D·Disk .state) (now (self .entry)) (now (self .exit)) ⌝ }
     {
         self.below.start()?;
         if self.due() {
@@ -205,7 +206,11 @@ pub impl<D: Spoilable> Disk for Failing<D> as FailingDisk {
 }
 
 pub impl<D: Spoilable> Spoilable for Failing<D> as FailingSpoilable {
-    fn spoil(&mut self, sector: u32) -> Result<(), Fault> {
+    fn spoil(&mut self, sector: u32) -> Result<(), Fault>
+        ensures rule { λ r. ⌜ Spoils sector (failingState (D·Disk .state) (now (self .entry))) r (failingState (D·Disk .state) (now (self .exit))) ⌝ }
+        ensures same { λ _. ⌜ failingLayers (D·Disk .layers) (now (self .exit)) ≡ failingLayers (D·Disk .layers) (now (self .entry)) ⌝ }
+        ensures below { λ r. ⌜ Spoiled (D·Disk .state) sector (now (self .entry)) r (now (self .exit)) ⌝ }
+    {
         self.below.spoil(sector)
     }
 }

@@ -25,5 +25,5 @@ returns-then-due g c =
       waits = search needs;
       due = search needs;
       rests = search needs;
-      refuses = tt;
+      refuses = search needs;
     }
