@@ -1,0 +1,3 @@
+pub mod AnchorRound
+pub mod Numbers
+pub mod Zeros

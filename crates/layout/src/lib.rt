@@ -1,0 +1,3 @@
+// The sectors of a volume that carry a tag, as values: encoders, and decoders that accept just the right sectors.
+pub mod anchor;
+mod fill;
