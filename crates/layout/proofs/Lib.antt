@@ -1,3 +1,4 @@
 pub mod AnchorRound
+pub mod EndRound
 pub mod Numbers
 pub mod Zeros

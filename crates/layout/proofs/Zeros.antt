@@ -4,6 +4,7 @@
 --     replicate-zeros                      what passes is zeros
 --     filled                               what a fill writes
 --     padded-front                         a sector whose end is zeros is its front, padded
+--     rest-zeros                           the test of a sector's rest
 --     padded-take, padded-rest             the fields of a padded sector, and its zeros
 --     gets, padded-gets                    a padded sector by its first bytes, each by itself
 use mathlib.Core.Path.{_≡_, refl, sym, ap, ap₂, _∙_}
@@ -14,7 +15,7 @@ use native.Mathlib.Omega.{arith}
 use native.Mathlib.Numerals.{add-one}
 use lib.Dec.{eqb}
 use lib.ListN.{length, getD, take, drop, replicate}
-use Rattle.std.proofs.shelf.Lists.{drop-more, drop-all, take-append-drop, take-at, length-drop, length-take, length-append, append-nil, drop-at}
+use Rattle.std.proofs.shelf.Lists.{drop-more, drop-all, take-append-drop, take-at, length-drop, length-take, length-append, append-nil, drop-at, take-rest}
 use Rattle.std.proofs.shelf.Ways.{tells}
 use borrow.Rule.Slice.PartMut.{putMid, midOf, postOf}
 use Rattle.layout.specs.Padded.{padded, allZeros}
@@ -94,3 +95,7 @@ gets-take (suc k) i s h =
 -- A sector that ends in zeros is its first k bytes, padded.
 pub padded-gets : (k : ℕ) (s : List ℕ) → length s ≡ 512 → k ≤ 512 → allZeros (drop k s) ≡ true → s ≡ padded (gets k 0 s)
 padded-gets k s long within zeros = padded-front k s long within zeros ∙ ap padded (gets-take k 0 s (omega arith))
+
+-- What the test of a sector's rest tells.
+pub rest-zeros : (s : List ℕ) (k : ℕ) {b : Bool} → b ≡ allZeros (take (length s - k) (drop k s)) → allZeros (drop k s) ≡ b
+rest-zeros s k e = ap allZeros (sym (take-rest s k)) ∙ sym e

@@ -1,2 +1,4 @@
 pub mod Padded
 pub mod Anchors
+pub mod Ends
+pub mod Headers
