@@ -21,7 +21,7 @@ pub struct Geometry {
 impl Geometry {
     /// The geometry with these numbers, or 15.
     pub fn new(pages: u32, third: u32, sectors: u32) -> Result<Geometry, Refusal>
-        ensures made { λ r. ⌜ elim r [ Ok g ↦ (g .pages ≡ pages) × (g .third ≡ third) × (g .sectors ≡ sectors) | Err x ↦ (x ≡ BadNumbers) × (Good pages third sectors → ⊥) ] ⌝ }
+        ensures made { λ r. ⌜ elim r [ Ok g ↦ (g .pages ≡ pages) × (g .third ≡ third) × (g .sectors ≡ sectors) × Good pages third sectors | Err x ↦ (x ≡ BadNumbers) × (Good pages third sectors → ⊥) ] ⌝ }
         ensures regions { λ r. ⌜ elim r [ Ok g ↦ Apart pages third sectors | Err x ↦ (x ≡ BadNumbers) ] ⌝ }
     {
         if pages < 2 {

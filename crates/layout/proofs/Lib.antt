@@ -1,4 +1,5 @@
 pub mod AnchorRound
 pub mod EndRound
+pub mod HeaderRound
 pub mod Numbers
 pub mod Zeros

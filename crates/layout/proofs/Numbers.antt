@@ -3,6 +3,7 @@
 --     four-number      a number of four bytes comes back from them
 --     two-back, two-number     the same for two bytes
 --     opened, shut, was-open   a decoder behind tests that hold, and behind ones that do not
+--     both-true, two-true, false-right     two tests in a row
 --     tag-letters      a tag that was found gives its letters
 use mathlib.Core.Path.{_≡_, refl, sym, ap, ap₂, _∙_}
 use mathlib.Core.Bool.{Bool, true, false, cond, _&&_}
@@ -61,3 +62,10 @@ tag-letters a b c d s h =
     let y = both-true (eqb (getD s 1 0) b) _ (x .1) in
     let z = both-true (eqb (getD s 2 0) c) _ (y .1) in
     (decides-eqb (getD s 0 0) a .0 (x .0), decides-eqb (getD s 1 0) b .0 (y .0), decides-eqb (getD s 2 0) c .0 (z .0), decides-eqb (getD s 3 0) d .0 (z .1))
+
+pub false-right : (a b : Bool) → b ≡ false → (a && b) ≡ false
+false-right true b h = h
+false-right false b h = refl
+
+pub two-true : (a b : Bool) → a ≡ true → b ≡ true → (a && b) ≡ true
+two-true a b p q = rw (p, q)
