@@ -1,5 +1,7 @@
 pub mod AnchorRound
 pub mod EndRound
+pub mod HeadRound
 pub mod HeaderRound
 pub mod Numbers
+pub mod PageNumbers
 pub mod Zeros

@@ -5,6 +5,7 @@
 --     filled                               what a fill writes
 --     padded-front                         a sector whose end is zeros is its front, padded
 --     rest-zeros                           the test of a sector's rest
+--     padded-more                          more fields behind those of a padded sector
 --     padded-take, padded-rest             the fields of a padded sector, and its zeros
 --     gets, padded-gets                    a padded sector by its first bytes, each by itself
 use mathlib.Core.Path.{_≡_, refl, sym, ap, ap₂, _∙_}
@@ -15,7 +16,7 @@ use native.Mathlib.Omega.{arith}
 use native.Mathlib.Numerals.{add-one}
 use lib.Dec.{eqb}
 use lib.ListN.{length, getD, take, drop, replicate}
-use Rattle.std.proofs.shelf.Lists.{drop-more, drop-all, take-append-drop, take-at, length-drop, length-take, length-append, append-nil, drop-at, take-rest}
+use Rattle.std.proofs.shelf.Lists.{drop-more, drop-all, take-append-drop, take-at, length-drop, length-take, length-append, append-nil, append-assoc, drop-at, drop-replicate, take-rest}
 use Rattle.std.proofs.shelf.Ways.{tells}
 use borrow.Rule.Slice.PartMut.{putMid, midOf, postOf}
 use Rattle.layout.specs.Padded.{padded, allZeros}
@@ -99,3 +100,12 @@ padded-gets k s long within zeros = padded-front k s long within zeros ∙ ap pa
 -- What the test of a sector's rest tells.
 pub rest-zeros : (s : List ℕ) (k : ℕ) {b : Bool} → b ≡ allZeros (take (length s - k) (drop k s)) → allZeros (drop k s) ≡ b
 rest-zeros s k e = ap allZeros (sym (take-rest s k)) ∙ sym e
+
+-- Fields put right behind those that a padded sector has.
+pub padded-more : (fields more : List ℕ) (a k : ℕ) → length fields ≡ a → length more ≡ k → a + k ≤ 512 → putMid a k (padded fields) more ≡ padded (fields ++ more)
+unfolding padded
+padded-more fields more a k la lk within =
+    let zeros : drop k (drop a (fields ++ replicate (512 - length fields) 0)) ≡ replicate (512 - length (fields ++ more)) 0 =
+    ap (drop k) (drop-at fields (replicate (512 - length fields) 0) a la) ∙ drop-replicate k (512 - length fields) 0
+    ∙ ap (λ n. replicate n 0) (simp length-append (omega arith)) in
+    ap₂ (λ x y. x ++ (more ++ y)) (take-at fields (replicate (512 - length fields) 0) a la) zeros ∙ sym (append-assoc fields more (replicate (512 - length (fields ++ more)) 0))

@@ -1,4 +1,5 @@
 pub mod Padded
 pub mod Anchors
 pub mod Ends
+pub mod Heads
 pub mod Headers

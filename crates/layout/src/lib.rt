@@ -2,4 +2,5 @@
 pub mod anchor;
 pub mod end;
 mod fill;
+pub mod head;
 pub mod header;
