@@ -1,11 +1,17 @@
--- The order of keys is total, and zeros come before every key.
-use mathlib.Core.Path.{_≡_, refl, sym, ap, ap₂, _∙_}
-use mathlib.Core.Bool.{Bool, true, false, cond, _&&_}
+-- The order of keys.
+--     keys-ordered     it is total
+--     zeros-below      zeros come before every key
+--     lt-before        what `<` of two arrays answers
+use mathlib.Core.Path.{_≡_, refl, ap₂}
+use mathlib.Core.Bool.{Bool, true, false}
 use mathlib.Core.List.{List, [], _∷_}
 use Prim.Native.Nat.{ℕ, _<_}
 use native.Mathlib.Omega.{arith}
-use lib.Dec.{eqb, ltb}
 use lib.ListN.{replicate}
+use Rattle.std.specs.Lexical.{LexSome}
+use Rattle.std.specs.Options.{SomeBy}
+use Rattle.std.specs.Orderings.{Ranked, Tested, isLt}
+use Rattle.std.proofs.shelf.Orders.{same-from-lex-tested}
 use Rattle.std.proofs.shelf.Ways.{tells}
 use Rattle.names.specs.Names.{letter, isKey}
 use Rattle.names.specs.Orders.{before, Total}
@@ -48,3 +54,7 @@ zeros-below (b ∷ k) h =
     let l : letter b ≡ true = grind (arith, tells) in
     let above = letter-above b l in
     grind (arith, tells)
+
+pub lt-before : (xs ys : List ℕ) (r : Bool) → Tested (LexSome (λ x y o. SomeBy o (λ k. Ranked k (x < y) (x ≡ y) (y < x))) xs ys) isLt r → r ≡ before xs ys
+unfolding before
+lt-before = same-from-lex-tested (λ a b k. Ranked k (a < b) (a ≡ b) (b < a)) isLt before refl (λ _ _. refl) (λ _ _. refl) (λ x y xs ys o h. grind (arith, tells))

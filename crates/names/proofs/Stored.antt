@@ -1,14 +1,16 @@
--- A good text filled up with zeros is a stored name, and with a version a key.
-use mathlib.Core.Path.{_≡_, refl, sym, ap, ap₂, _∙_}
-use mathlib.Core.Bool.{Bool, true, false, cond, _&&_}
+-- The bytes of names and keys as they are made.
+--     stored-name      a good text filled up with zeros is a name
+--     joined-bytes     the bytes of a name and the two of a number, written into 22 zeros
+--     stored-key       a name and a version are a key
+--     filled-empty     no text filled up is 20 zeros
+use mathlib.Core.Path.{_≡_, refl, ap, ap₂, _∙_}
+use mathlib.Core.Bool.{true}
 use mathlib.Core.List.{List, [], _∷_, _++_}
-use Prim.Native.Nat.{ℕ, zero, suc, _+_, _-_, _*_, _/_, _%_, _<_, _≤_}
+use Prim.Native.Nat.{ℕ, zero, suc, _-_, _/_, _%_, _<_, _≤_}
 use native.Mathlib.Omega.{arith}
-use lib.Dec.{eqb, leb}
 use lib.ListN.{length, getD, set, take, replicate}
 use Rattle.std.proofs.shelf.Lists.{length-append, length-replicate, take-at, getD-append-right, set-at, set-append-right}
 use Rattle.std.proofs.shelf.Tests.{and-from, and-parts, eq-eqb, eqb-true, le-leb}
-use Rattle.std.proofs.shelf.Ways.{tells}
 use Rattle.names.specs.Names.{letter, letters, zeros, lettersThenZeros, GoodName, filled, isName, twoBytes, versionOf, isKey}
 use Rattle.names.specs.Versions.{highest, InRange}
 
@@ -26,22 +28,20 @@ letters-follow : (text : List ℕ) (n : ℕ) → letters text ≡ true → lette
 unfolding letters lettersThenZeros
 letters-follow [] n h = zeros-follow n
 letters-follow (b ∷ text) n h =
-    let l = and-parts (letter b) (letters text) h in
-    let more = letters-follow text n (l .1) in
-    let is = l .0 in
-    rw is more
+    let both = and-parts (letter b) (letters text) h in
+    rw (both .0) (letters-follow text n (both .1))
 
 first-letter : (text : List ℕ) → 1 ≤ length text → letters text ≡ true → (rest : List ℕ) → letter (getD (text ++ rest) 0 0) ≡ true
 unfolding letters
 first-letter [] long h rest = absurd (omega arith)
 first-letter (b ∷ text) long h rest = and-parts (letter b) (letters text) h .0
 
-pub stored-name : (text : List ℕ) → GoodName text → isName (filled text) ≡ true
-stored-name text good =
+pub stored-name : (bytes text : List ℕ) → bytes ≡ filled text → GoodName text → isName bytes ≡ true
+stored-name bytes text is good =
     let whole : length (filled text) ≡ 20 = simp (length-append, length-replicate) (omega arith) in
-    and-from _ _ (and-from _ _ (eq-eqb (length (filled text)) 20 whole) (first-letter text (good .0) (good .2) (replicate (20 - length text) 0))) (letters-follow text (20 - length text) (good .2))
+    ap isName is
+    ∙ and-from _ _ (and-from _ _ (eq-eqb (length (filled text)) 20 whole) (first-letter text (good .0) (good .2) (replicate (20 - length text) 0))) (letters-follow text (20 - length text) (good .2))
 
--- the bytes of a name and the two of a number, as they are written
 pub joined-bytes : (p name : List ℕ) (n : ℕ) → p ≡ name → length name ≡ 20 → n < 65536 → set (set (p ++ 0 ∷ 0 ∷ []) 20 (n / 256)) 21 (n % 256) ≡ name ++ twoBytes n
 joined-bytes p name n same long small =
     let at : length p ≡ 20 = ap length same ∙ long in
@@ -50,8 +50,8 @@ joined-bytes p name n same long small =
     ∙ set-append-right p (n / 256 ∷ 0 ∷ []) 20 21 (n % 256) at (omega arith)
     ∙ ap₂ (λ q h. q ++ h ∷ n % 256 ∷ []) same high
 
-pub stored-key : (key name : List ℕ) (n : ℕ) → isName name ≡ true → InRange n → n < 65536 → key ≡ name ++ twoBytes n → isKey key ≡ true
-stored-key key name n good range small is =
+pub stored-key : (key name : List ℕ) (n : ℕ) → key ≡ name ++ twoBytes n → isName name ≡ true → InRange n → isKey key ≡ true
+stored-key key name n is good range =
     let long : length name ≡ 20 = eqb-true (length name) 20 (and-parts _ _ (and-parts _ _ good .0) .0) in
     let whole : length key ≡ 22 = ap length is ∙ length-append name (twoBytes n) ∙ omega arith in
     let front : take 20 key ≡ name = ap (take 20) is ∙ take-at name (twoBytes n) 20 long in

@@ -1,5 +1,9 @@
 -- The tests of a name's bytes, one byte at a time.
-use mathlib.Core.Path.{_≡_, refl, sym, ap, _∙_}
+--     no-letter, one-letter, letters-all       letters only: at another byte, at a letter, past the last byte
+--     rest                                     what is left to test: zeros only after the first zero, before it letters and then zeros
+--     zero-on, letter-on                       letters and then zeros: at a zero, at a letter before the first zero
+--     other-ended, other-byte, rest-all        at another byte after the first zero, at another byte before it, past the last byte
+use mathlib.Core.Path.{_≡_, refl, ap, _∙_}
 use mathlib.Core.Bool.{Bool, true, false, cond, _&&_}
 use mathlib.Core.List.{List, [], _∷_}
 use Prim.Native.Nat.{ℕ, zero, suc, _+_, _<_, _≤_}
@@ -23,7 +27,6 @@ module _ (bytes : List ℕ) (i : ℕ) where
   unfolding letters
   letters-all h = at-drop-all letters bytes i h
 
--- what is left to test: zeros only after the first zero, and before it letters and then zeros
 abbrev pub rest : Bool → List ℕ → Bool
 rest ended bytes = cond ended (zeros bytes) (lettersThenZeros bytes)
 

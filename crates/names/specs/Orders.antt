@@ -1,6 +1,6 @@
 -- The order of keys, and what makes a test an order.
 --     before       byte by byte, the first that differs decides; the empty list comes before any other
---     Total        nothing comes before itself, what comes before goes on, and of two that differ one comes before the other
+--     Total        a test orders all of K: nothing comes before itself, what comes before y comes before all that y comes before, and of two that differ one comes first
 use Prim.Native.Nat.{ℕ}
 use mathlib.Core.Path.{_≡_}
 use mathlib.Core.Bool.{Bool, true, false, cond}

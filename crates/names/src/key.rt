@@ -1,11 +1,10 @@
 // The key of a file: its name and its version.
 ghost use mathlib.Core.Path.{_≡_};
 ghost use mathlib.Core.Bool.{true, false};
-ghost use mathlib.Core.List.{List, _++_};
-ghost use Prim.Native.Nat.{ℕ, _≤_};
+ghost use mathlib.Core.List.{_++_};
 ghost use lib.ListN.{take};
 ghost use Rattle.std.specs.declared.option.Option.the-variants.{Some, None};
-ghost use Rattle.names.specs.Names.{isName, isKey, twoBytes, versionOf};
+ghost use Rattle.names.specs.Names.{isKey, twoBytes, versionOf};
 ghost use Rattle.names.specs.Orders.{before, Total};
 ghost use Rattle.names.specs.Versions.{InRange};
 use crate::name::Name;
@@ -68,8 +67,8 @@ impl Key {
     }
 }
 
-/// The 20 bytes of a name and a number in two bytes, the higher first.
-pub fn joined(name: &[u8; 20], number: u16) -> [u8; 22]
+// The 20 bytes of a name and a number in two bytes, the higher first.
+pub(crate) fn joined(name: &[u8; 20], number: u16) -> [u8; 22]
     ensures { λ r. ⌜ r ≡ now (name .entry) ++ twoBytes number ⌝ }
 {
     let mut bytes = [0u8; 22];

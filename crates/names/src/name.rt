@@ -1,7 +1,7 @@
 // The name of a file.
 ghost use mathlib.Core.Path.{_≡_};
 ghost use mathlib.Core.Bool.{true, false};
-ghost use Prim.Native.Nat.{ℕ, _≤_};
+ghost use Prim.Native.Nat.{_≤_};
 ghost use lib.ListN.{length};
 ghost use Rattle.std.specs.declared.option.Option.the-variants.{Some, None};
 ghost use Rattle.std.specs.declared.result.Result.the-variants.{Ok, Err};
@@ -46,8 +46,8 @@ impl Name {
     }
 }
 
-/// Whether these bytes are a stored name.
-pub fn is_name(bytes: &[u8]) -> bool
+// Whether these bytes are a stored name.
+pub(crate) fn is_name(bytes: &[u8]) -> bool
     ensures { λ r. ⌜ r ≡ isName (now (bytes .entry)) ⌝ }
 {
     bytes.len() == 20 && is_letter(bytes[0]) && letters_then_zeros(bytes)
