@@ -10,7 +10,8 @@ use Rattle.std.specs.declared.option.Option.{Option}
 use Rattle.std.specs.declared.option.Option.the-variants.{Some, None}
 use Rattle.std.proofs.shelf.Ways.{tells, decides-eqb}
 use Rattle.geometry.specs.Places.{Good, dataStart}
-use Rattle.layout.specs.Padded.{padded, allZeros, twoBytes, fourBytes, number4, tagIs, Decodes}
+use Rattle.layout.specs.Padded.{padded, allZeros, fourBytes, number4, tagIs, Decodes}
+use Rattle.names.specs.Names.{twoBytes}
 use Rattle.layout.specs.Headers.{HeaderFits, encodeHeader, goodNumbers, headerOf, decodeHeader}
 use Rattle.layout.specs.declared.header.Header.{Header}
 use Rattle.layout.proofs.Numbers.{two-number, two-back, four-number, four-back, opened, shut, was-open, both-true, tag-letters}

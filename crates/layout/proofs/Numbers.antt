@@ -15,7 +15,8 @@ use lib.ListN.{getD}
 use Rattle.std.specs.declared.option.Option.{Option}
 use Rattle.std.specs.declared.option.Option.the-variants.{Some, None}
 use Rattle.std.proofs.shelf.Ways.{decides-eqb}
-use Rattle.layout.specs.Padded.{fourBytes, twoBytes, number4, tagIs}
+use Rattle.layout.specs.Padded.{fourBytes, number4, tagIs}
+use Rattle.names.specs.Names.{twoBytes}
 
 pub four-number : (n : ℕ) → n < 2 ^ 32 → number4 (n / 16777216 % 256) (n / 65536 % 256) (n / 256 % 256) (n % 256) ≡ n
 four-number n h =

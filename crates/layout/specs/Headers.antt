@@ -13,7 +13,8 @@ use lib.ListN.{getD, drop}
 use Rattle.std.specs.declared.option.Option.{Option}
 use Rattle.std.specs.declared.option.Option.the-variants.{Some, None}
 use Rattle.geometry.specs.Places.{Good, dataStart}
-use Rattle.layout.specs.Padded.{padded, allZeros, twoBytes, fourBytes, number4, tagIs}
+use Rattle.layout.specs.Padded.{padded, allZeros, fourBytes, number4, tagIs}
+use Rattle.names.specs.Names.{twoBytes}
 use Rattle.layout.specs.declared.header.Header.{Header}
 
 abbrev pub HeaderFits : ℕ → Header → Type 0

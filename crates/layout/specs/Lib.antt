@@ -3,3 +3,4 @@ pub mod Anchors
 pub mod Ends
 pub mod Heads
 pub mod Headers
+pub mod Leaders

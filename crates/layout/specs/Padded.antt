@@ -1,7 +1,7 @@
 -- Fields one after the other and then zeros, in a sector of 512 bytes, and what it is to decode one.
 --     padded               fields, and zeros up to 512
 --     allZeros             all bytes are zero
---     twoBytes, fourBytes  a number in two bytes and in four, the highest first
+--     fourBytes, number4   a number in four bytes, the highest first, and back
 --     tagIs                a sector begins with four letters
 --     Decodes              a decoder's answer: what was encoded comes back, and only what was encoded is right
 use Prim.Native.Nat.{ℕ, _+_, _-_, _*_, _/_, _%_}
@@ -19,9 +19,6 @@ padded fields = fields ++ replicate (512 - length fields) 0
 unfoldable pub allZeros : List ℕ → Bool
 allZeros [] = true
 allZeros (b ∷ bytes) = eqb b 0 && allZeros bytes
-
-abbrev pub twoBytes : ℕ → List ℕ
-twoBytes n = (n / 256 % 256) ∷ (n % 256) ∷ []
 
 abbrev pub fourBytes : ℕ → List ℕ
 fourBytes n = (n / 16777216 % 256) ∷ (n / 65536 % 256) ∷ (n / 256 % 256) ∷ (n % 256) ∷ []

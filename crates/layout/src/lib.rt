@@ -4,3 +4,4 @@ pub mod end;
 mod fill;
 pub mod head;
 pub mod header;
+pub mod leader;
