@@ -5,4 +5,5 @@ pub mod HeaderRound
 pub mod LeaderRound
 pub mod Numbers
 pub mod PageNumbers
+pub mod TagsDiffer
 pub mod Zeros

@@ -4,3 +4,4 @@ pub mod Ends
 pub mod Heads
 pub mod Headers
 pub mod Leaders
+pub mod Tags

@@ -5,3 +5,4 @@ mod fill;
 pub mod head;
 pub mod header;
 pub mod leader;
+pub mod tagged;
