@@ -6,6 +6,7 @@
 --     GoodName             the text of a name: 1 to 20 letters
 --     filled               a text filled up with zeros to 20 bytes
 --     isName               the 20 stored bytes of a name: a letter, then letters, and then zeros only
+--     HasText              the bytes are some good text, filled up
 --     twoBytes             a number in two bytes, the higher first
 --     versionOf            the number in the last two bytes of a key
 --     isKey                the 22 bytes of a key: a name, and a version from 1 to 9,999
@@ -40,6 +41,9 @@ filled text = text ++ replicate (20 - length text) 0
 
 abbrev pub isName : List ℕ → Bool
 isName bytes = eqb (length bytes) 20 && letter (getD bytes 0 0) && lettersThenZeros bytes
+
+abbrev pub HasText : List ℕ → Type 0
+HasText bytes = (text : List ℕ) × GoodName text × (bytes ≡ filled text)
 
 abbrev pub twoBytes : ℕ → List ℕ
 twoBytes n = n / 256 % 256 ∷ n % 256 ∷ []

@@ -6,7 +6,7 @@ ghost use lib.ListN.{length};
 ghost use Rattle.std.specs.declared.option.Option.the-variants.{Some, None};
 ghost use Rattle.std.specs.declared.result.Result.the-variants.{Ok, Err};
 ghost use Rattle.refusal.specs.declared.Refusal.the-variants.{BadName};
-ghost use Rattle.names.specs.Names.{letter, letters, lettersThenZeros, GoodName, filled, isName};
+ghost use Rattle.names.specs.Names.{letter, letters, lettersThenZeros, GoodName, filled, isName, HasText};
 use refusal::Refusal;
 
 /// A name has 1 to 20 characters of A to Z, 0 to 9 and the hyphen. It is stored filled up with zeros to 20 bytes. Every value of it is good.
@@ -34,15 +34,14 @@ impl Name {
         Ok(Name { bytes: fill(text) })
     }
 
-    /// The name that is stored in these bytes, if they are one.
+    /// The name that is stored in these bytes, if they are one: a good text, filled up.
     pub fn from_bytes(bytes: &[u8; 20]) -> Option<Name>
-        ensures { λ r. ⌜ elim r [ Some n ↦ (isName (now (bytes .entry)) ≡ true) × (n .bytes ≡ now (bytes .entry)) | None ↦ isName (now (bytes .entry)) ≡ false ] ⌝ }
+        ensures { λ r. ⌜ elim r [ Some n ↦ (isName (now (bytes .entry)) ≡ true) × (n .bytes ≡ now (bytes .entry)) × HasText (now (bytes .entry)) | None ↦ isName (now (bytes .entry)) ≡ false ] ⌝ }
     {
-        if is_name(bytes) {
-            Some(Name { bytes: *bytes })
-        } else {
-            None
+        if !is_name(bytes) {
+            return None;
         }
+        Some(Name { bytes: *bytes })
     }
 }
 
