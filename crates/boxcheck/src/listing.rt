@@ -1,30 +1,22 @@
-// The tagged sectors of a volume, as a fitter wants to see them.
+// A volume's tagged sectors, written for the listing.
 use disk::disks::Disk;
 use disk::faults::Fault;
-use geometry::geometry::Geometry;
 use geometry::third::Third;
 use layout::anchor::Anchor;
 use layout::end::RecordEnd;
 use layout::head::RecordHead;
 use layout::header::Header;
 use layout::leader::Leader;
-use layout::tagged::Tagged;
 use names::key::Key;
 use names::name::Name;
 use names::version::Version;
 use refusal::Refusal;
-use std::fmt;
 
 pub const PAGES: u8 = 4;
-pub const THIRD: u16 = 14;
-pub const SECTORS: u32 = 120;
 
-// One sector of the listing.
-pub struct Line {
-    pub sector: u32,
-    pub tagged: Tagged,
-    pub bytes: [u8; 512],
-}
+pub const THIRD: u16 = 14;
+
+pub const SECTORS: u32 = 120;
 
 /// Writes two copies of the header and of the anchor.
 pub fn write_twins<D: Disk>(disk: &mut D) -> Result<(), Fault> {
@@ -46,7 +38,7 @@ pub fn write_twins<D: Disk>(disk: &mut D) -> Result<(), Fault> {
     disk.write(6, &work)
 }
 
-/// Writes the heads and the ends of group 2 with page 1, from the start of third 0.
+/// Writes the heads and the ends of group 2 with page 1, from `start` on.
 pub fn write_record<D: Disk>(disk: &mut D, start: u32) -> Result<(), Fault> {
     let mut work = [0u8; 512];
     let mut pages = [0u8; 21];
