@@ -1,14 +1,27 @@
 // The box check: a score sheet on two sectors, through a power cut in every manner at every write, with a report for the fitter.
+mod lines;
+mod listing;
 mod report;
 mod tally;
 mod trials;
 
+use crate::lines::Line;
+use crate::lines::LineDisplay;
+use crate::lines::Places;
+use crate::lines::PlacesDisplay;
 use crate::report::TallyDisplay;
 use crate::report::TrialDisplay;
 use crate::tally::Tally;
 use crate::trials::Came;
 use crate::trials::MANNERS;
+use cases::worked_cases;
+use disk::disks::Disk;
 use failing::manner::Manner;
+use geometry::geometry::Geometry;
+use image::Image;
+use image::ImageDisk;
+use layout::tagged::Tagged;
+use layout::tagged::tag_of;
 use sheet::page::page_of;
 use std::env;
 use std::error::AnyError;
@@ -97,8 +110,63 @@ fn run(rt: &LibcRuntime) -> Result<bool, AnyError> {
     Ok(tally.passed())
 }
 
+// Prints each sector of a disk that carries a tag.
+fn list<D: Disk>(rt: &LibcRuntime, disk: &mut D) -> Result<(), AnyError> {
+    println!(rt, "sector  carries{:<40}first bytes", "")?;
+    for sector in 0..listing::SECTORS {
+        let mut bytes = [0u8; 512];
+        if disk.read(sector, &mut bytes).is_err() {
+            return Err("the disk could not be read".into());
+        }
+        let tagged = tag_of(&bytes, listing::SECTORS, listing::PAGES);
+        if let Tagged::Other = tagged {
+            continue;
+        }
+        let mut first = [0u8; 12];
+        first.copy_from_slice(&bytes[0..12]);
+        let line = Line {
+            sector,
+            tagged,
+            first,
+        };
+        println!(rt, "{line}")?;
+    }
+    Ok(())
+}
+
+// Lays out a small volume on a fresh image and shows where it has what.
+fn show_volume(rt: &LibcRuntime) -> Result<(), AnyError> {
+    let Ok(geometry) = Geometry::new(
+        u32::from(listing::PAGES),
+        u32::from(listing::THIRD),
+        listing::SECTORS,
+    ) else {
+        return Err("the numbers of the volume are bad".into());
+    };
+    let places = Places(geometry);
+    println!(rt, "{places}")?;
+    let mut bytes: Vec<u8> = vec![in rt.alloc(); 0; 61560]?;
+    let mut disk = Image::new(bytes.as_mut_slice());
+    if listing::write_twins(&mut disk).is_err() {
+        return Err("the disk could not be written".into());
+    }
+    if listing::write_record(&mut disk, 8).is_err() {
+        return Err("the disk could not be written".into());
+    }
+    if listing::write_leader(&mut disk, 60, b"R5", 40).is_err() {
+        return Err("the disk could not be written".into());
+    }
+    list(rt, &mut disk)?;
+    let cases = worked_cases();
+    println!(rt, "{cases} worked cases of the format hold by proof")?;
+    Ok(())
+}
+
 fn main(rt: LibcRuntime) -> Result<(), AnyError> {
-    if run(&rt)? {
+    let passed = run(&rt)?;
+    println!(rt, "")?;
+    show_volume(&rt)?;
+    if passed {
         Ok(())
     } else {
         Err("the box check did not pass".into())

@@ -1,0 +1,4 @@
+pub mod Places
+pub mod Regions
+pub mod Thirds
+pub mod Sizes

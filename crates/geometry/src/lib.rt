@@ -1,0 +1,4 @@
+// Where everything stands on a volume's disk.
+pub mod geometry;
+pub mod sizes;
+pub mod third;

@@ -1,0 +1,4 @@
+pub mod ByteOrder
+pub mod Stored
+pub mod Tested
+pub mod Texts
