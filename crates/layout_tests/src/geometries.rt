@@ -1,22 +1,20 @@
 // Good numbers of a volume and bad ones, and the places that follow from good ones.
+use crate::refused::refused;
 use geometry::geometry::Geometry;
 use geometry::third::Third;
 use refusal::RefusalDebug;
 use std::test::*;
 
 // The number of the refusal of these numbers, or 0.
-fn refused(pages: u32, third: u32, sectors: u32) -> u8 {
-    match Geometry::new(pages, third, sectors) {
-        Ok(_) => 0,
-        Err(refusal) => refusal.number(),
-    }
+fn turned_down(pages: u32, third: u32, sectors: u32) -> u8 {
+    refused(Geometry::new(pages, third, sectors))
 }
 
 // Checks that these numbers of sectors of a third and of the disk are the least good ones, with so many pages.
 fn least(pages: u32, third: u32, sectors: u32) -> Result<(), Fail> {
-    check_eq(refused(pages, third, sectors), 0)?;
-    check_eq(refused(pages, third, sectors.saturating_sub(1)), 15)?;
-    check_eq(refused(pages, third.saturating_sub(1), sectors), 15)
+    check_eq(turned_down(pages, third, sectors), 0)?;
+    check_eq(turned_down(pages, third, sectors.saturating_sub(1)), 15)?;
+    check_eq(turned_down(pages, third.saturating_sub(1), sectors), 15)
 }
 
 #[test]
@@ -28,12 +26,12 @@ fn least_numbers() -> Result<(), Fail> {
 
 #[test]
 fn greatest_numbers() -> Result<(), Fail> {
-    check_eq(refused(4, 33, 120), 0)?;
-    check_eq(refused(4, 34, 120), 15)?;
-    check_eq(refused(4, 1000, u32::MAX), 0)?;
-    check_eq(refused(4, 1001, u32::MAX), 15)?;
-    check_eq(refused(1, 14, 120), 15)?;
-    check_eq(refused(22, 60, 9999), 15)
+    check_eq(turned_down(4, 33, 120), 0)?;
+    check_eq(turned_down(4, 34, 120), 15)?;
+    check_eq(turned_down(4, 1000, u32::MAX), 0)?;
+    check_eq(turned_down(4, 1001, u32::MAX), 15)?;
+    check_eq(turned_down(1, 14, 120), 15)?;
+    check_eq(turned_down(22, 60, 9999), 15)
 }
 
 #[test]

@@ -1,8 +1,8 @@
 // The sectors of files and of records.
+use crate::refused::refused;
 use geometry::sizes::data_sectors;
 use geometry::sizes::extent_sectors;
 use geometry::sizes::record_sectors;
-use refusal::Refusal;
 use refusal::RefusalDebug;
 use refusal::RefusalPartialEq;
 use std::test::*;
@@ -23,14 +23,6 @@ fn data() -> Result<(), Fail> {
     has(512, 1)?;
     has(513, 2)?;
     has(8192, 16)
-}
-
-// The number of the refusal, or 0.
-fn refused(result: Result<u32, Refusal>) -> u8 {
-    match result {
-        Ok(_) => 0,
-        Err(refusal) => refusal.number(),
-    }
 }
 
 #[test]

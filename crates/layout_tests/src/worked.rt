@@ -61,3 +61,44 @@ fn anchor() -> Result<(), Fail> {
     let back = Anchor::decode(&sector).ok_or("not right")?;
     check_eq((back.third, back.group), (Third::Zero, 2))
 }
+
+#[test]
+fn head() -> Result<(), Fail> {
+    let mut pages = [0; 21];
+    pages[0] = 1;
+    let mut sector = [255; 512];
+    let head = RecordHead {
+        group: 2,
+        count: 1,
+        pages,
+    };
+    head.encode(&mut sector);
+    is_worked(OfHead(4), &sector, b"FSDH\0\0\0\x02\x01\x01")?;
+    let back = RecordHead::decode(&sector, 4).ok_or("not right")?;
+    check_eq((back.group, back.count), (2, 1))?;
+    check(back.pages == pages)
+}
+
+#[test]
+fn end() -> Result<(), Fail> {
+    let mut sector = [255; 512];
+    RecordEnd { group: 2, count: 1 }.encode(&mut sector);
+    is_worked(OfEnd, &sector, b"FSDE\0\0\0\x02\x01")?;
+    let back = RecordEnd::decode(&sector).ok_or("not right")?;
+    check_eq((back.group, back.count), (2, 1))
+}
+
+#[test]
+fn leader() -> Result<(), Fail> {
+    let key = *b"R5\0\0\0\0\0\0\0\0\0\0\0\0\0\0\0\0\0\0\0\x01";
+    let mut sector = [255; 512];
+    Leader { key, length: 40 }.encode(&mut sector);
+    is_worked(
+        OfLeader,
+        &sector,
+        b"FSDLR5\0\0\0\0\0\0\0\0\0\0\0\0\0\0\0\0\0\0\0\x01\0\0\0\x28",
+    )?;
+    let back = Leader::decode(&sector).ok_or("not right")?;
+    check_eq(back.length, 40)?;
+    check(back.key == key)
+}
