@@ -1,7 +1,9 @@
-// Good numbers of a volume and bad ones, and the places that follow from good ones.
+// Good numbers of a volume and bad ones, the places that follow from good ones, and the thirds.
 use crate::refused::refused;
 use geometry::geometry::Geometry;
 use geometry::third::Third;
+use geometry::third::ThirdDebug;
+use geometry::third::ThirdPartialEq;
 use refusal::RefusalDebug;
 use std::test::*;
 
@@ -34,8 +36,23 @@ fn greatest_numbers() -> Result<(), Fail> {
     check_eq(turned_down(22, 60, 9999), 15)
 }
 
+// Checks the number of a third, and the third after it.
+fn third(third: Third, number: u8, next: Third) -> Result<(), Fail> {
+    check_eq(third.number(), number)?;
+    check_eq(Third::from_number(number), Some(third))?;
+    check_eq(third.next(), next)
+}
+
 #[test]
 fn thirds() -> Result<(), Fail> {
+    third(Third::Zero, 0, Third::One)?;
+    third(Third::One, 1, Third::Two)?;
+    third(Third::Two, 2, Third::Zero)?;
+    check_eq(Third::from_number(3), None)
+}
+
+#[test]
+fn places_of_thirds() -> Result<(), Fail> {
     let geometry = Geometry::new(4, 14, 120)?;
     check_eq(geometry.third_start(Third::Zero), 8)?;
     check_eq(geometry.third_start(Third::One), 22)?;

@@ -43,6 +43,6 @@ fn check_rows(rows: &[Row]) -> Result<(), Fail> {
 }
 
 #[test]
-fn leaders() -> Result<(), Fail> {
+fn keys_and_lengths() -> Result<(), Fail> {
     check_rows(&ROWS)
 }

@@ -16,7 +16,7 @@ fn check_rows(rows: &[Row]) -> Result<(), Fail> {
     Ok(())
 }
 
-const HEADERS: [Row; 15] = [
+const HEADERS: [Row; 16] = [
     (OfHeader(120), b"FSDV\x01\x04\0\x0e\0\0\0\x78", true),
     (OfHeader(119), b"FSDV\x01\x04\0\x0e\0\0\0\x78", false),
     (OfHeader(121), b"FSDV\x01\x04\0\x0e\0\0\0\x78", false),
@@ -30,6 +30,7 @@ const HEADERS: [Row; 15] = [
     (OfHeader(120), b"FSDV\x01\x04\0\x21\0\0\0\x78", true),
     (OfHeader(120), b"FSDV\x01\x04\0\x22\0\0\0\x78", false),
     (OfHeader(120), b"FSDV\x01\x04\x01\x0e\0\0\0\x78", false),
+    (OfHeader(120), b"FSDV\x01\x04\0\x0e\x01\0\0\x78", false),
     (OfHeader(62), b"FSDV\x01\x04\0\x0e\0\0\0\x3e", true),
     (OfHeader(61), b"FSDV\x01\x04\0\x0e\0\0\0\x3d", false),
 ];
@@ -114,5 +115,9 @@ fn of_one_kind() -> Result<(), Fail> {
     check_eq(kinds_of(b"FSDV\x01\x04\0\x0e\0\0\0\x78"), 1)?;
     check_eq(kinds_of(b"FSDA\0\0\0\0\x02"), 1)?;
     check_eq(kinds_of(b"FSDH\0\0\0\x02\x01\x01"), 1)?;
-    check_eq(kinds_of(b"FSDE\0\0\0\x02\x01"), 1)
+    check_eq(kinds_of(b"FSDE\0\0\0\x02\x01"), 1)?;
+    check_eq(
+        kinds_of(b"FSDLR5\0\0\0\0\0\0\0\0\0\0\0\0\0\0\0\0\0\0\0\x01\0\0\0\x28"),
+        1,
+    )
 }

@@ -4,25 +4,34 @@ use geometry::sizes::data_sectors;
 use geometry::sizes::extent_sectors;
 use geometry::sizes::record_sectors;
 use refusal::RefusalDebug;
-use refusal::RefusalPartialEq;
 use std::test::*;
 
-// Checks the data sectors of a file of so many bytes, and that its extent has two more.
-fn has(bytes: u32, sectors: u32) -> Result<(), Fail> {
-    check_eq(data_sectors(bytes), Ok(sectors))?;
-    check_eq(
-        extent_sectors(bytes)?,
-        data_sectors(bytes)?.saturating_add(2),
-    )
+// The bytes of a file, its data sectors, and the sectors of its extent.
+type Row = (u32, u32, u32);
+
+const FILES: [Row; 8] = [
+    (0, 0, 2),
+    (1, 1, 3),
+    (512, 1, 3),
+    (513, 2, 4),
+    (1024, 2, 4),
+    (7680, 15, 17),
+    (7681, 16, 18),
+    (8192, 16, 18),
+];
+
+fn check_rows(rows: &[Row]) -> Result<(), Fail> {
+    for i in 0..rows.len() {
+        let (bytes, data, extent) = rows[i];
+        check_eq(data_sectors(bytes)?, data).note(i)?;
+        check_eq(extent_sectors(bytes)?, extent).note(i)?;
+    }
+    Ok(())
 }
 
 #[test]
-fn data() -> Result<(), Fail> {
-    has(0, 0)?;
-    has(1, 1)?;
-    has(512, 1)?;
-    has(513, 2)?;
-    has(8192, 16)
+fn files() -> Result<(), Fail> {
+    check_rows(&FILES)
 }
 
 #[test]
