@@ -47,6 +47,24 @@ fn write_hex<W: fmt::Write>(f: &mut fmt::Formatter<W>, bytes: &[u8; 12]) -> fmt:
     Ok(())
 }
 
+// A key as its name, a full stop and its version, in 20 columns at least.
+fn write_key<W: fmt::Write>(f: &mut fmt::Formatter<W>, key: &[u8; 22]) -> fmt::Result {
+    let mut width = 0u8;
+    for byte in &key[0..20] {
+        if *byte != 0 {
+            let letter = char::from(*byte);
+            write!(f, "{letter}")?;
+            width = width.saturating_add(1);
+        }
+    }
+    let version = u16::from_be_bytes([key[20], key[21]]);
+    write!(f, ".{version:<4}")?;
+    for _ in width..15 {
+        write!(f, " ")?;
+    }
+    Ok(())
+}
+
 fn write_fields<W: fmt::Write>(f: &mut fmt::Formatter<W>, tagged: &Tagged) -> fmt::Result {
     match tagged {
         Tagged::Header(header) => {
@@ -79,7 +97,8 @@ fn write_fields<W: fmt::Write>(f: &mut fmt::Formatter<W>, tagged: &Tagged) -> fm
         }
         Tagged::Leader(leader) => {
             let length = leader.length;
-            write!(f, "leader  length {length:<31}")
+            write!(f, "leader  length {length:<5} file ")?;
+            write_key(f, &leader.key)
         }
         Tagged::Other => write!(f, "other   {:<38}", ""),
     }
