@@ -9,5 +9,5 @@ pub fn worked_cases() -> u8
     ensures count { λ r. ⌜ r ≡ length table ⌝ }
     ensures hold { λ _. ⌜ allHold table ≡ true ⌝ }
 {
-    8
+    4
 }
