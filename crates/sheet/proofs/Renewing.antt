@@ -1,10 +1,12 @@
 -- A sheet is renewed: what each way through it leaves.
 --     cut-stands           what stands after a cut
+--     cut-place            in whose write it was
 --     restart-refused      the start after a cut is refused
 --     rewrite-refused      the rewriting is refused
 --     renewed              it is done, and what stands was read back
 --     left-written         both copies hold the new sheet where there was no cut
 use mathlib.Core.Path.{_≡_, refl, sym, subst}
+use mathlib.Core.Logic.{_⊎_}
 use mathlib.Core.List.{List}
 use Prim.Native.Nat.{ℕ, _≤_}
 use native.Mathlib.Omega.{arith}
@@ -25,6 +27,9 @@ module _ (first second : ℕ) (new : List ℕ) where
       → Stands first second old new m
   cut-stands d m x s is h old both = subst (λ (y : Fault). WritesBoth first second new d (Err y) m) is h .2 old both
 
+  pub cut-place : (d m : DiskState) (x : Fault) (s : ℕ) → x ≡ PowerOff s → WritesBoth first second new d (Err x) m → (s ≡ first) ⊎ (s ≡ second)
+  cut-place d m x s is h = subst (λ (y : Fault). WritesBoth first second new d (Err y) m) is h .1
+
   pub restart-refused : (d m e : DiskState) (x : Fault) → ((old : List ℕ) → Both first second old d → Stands first second old new m) → Starts m (Err x) e
       → Rewrites first second new d (Err x) e
   restart-refused d m e (PowerOff p) law h = λ old both. same-sectors first second old new m e (h .2) (law old both)
@@ -39,13 +44,13 @@ module _ (first second : ℕ) (new : List ℕ) where
 
   pub rewritten : (old : List ℕ) (d m : DiskState) (how : Renewal) → Rewrites first second new d (Ok how) m → Both first second old d → Stands first second old new m
   rewritten old d m Written h both = new-stands first (on-first refl (h .0))
-  rewritten old d m (Cut s) h both = h old both
+  rewritten old d m (Cut s) h both = h .1 old both
 
   pub renewed : (old got : List ℕ) (d m : DiskState) (s : ℕ) (how : Renewal) → Rewrites first second new d (Ok how) m → Both first second old d → Standing first second m s got
       → Renewed old new (Ok how) got
   renewed old got d m s Written h both stands = one-standing first second m s first got new stands (on-first refl (h .0))
-  renewed old got d m s (Cut t) h both stands = fetched first second old new got m s stands (h old both)
+  renewed old got d m s (Cut t) h both stands = fetched first second old new got m s stands (h .1 old both)
 
   pub left-written : (d m e : DiskState) (how : Renewal) → Rewrites first second new d (Ok how) m → e ≡ m → Leaves first second new (Ok how) e
   left-written d m e Written h same = subst (λ (x : DiskState). Both first second new x) (sym same) h
-  left-written d m e (Cut s) h same = tt
+  left-written d m e (Cut s) h same = h .0

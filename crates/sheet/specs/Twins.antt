@@ -5,7 +5,7 @@
 --     WritesBoth   both are written, or, if both held an old sheet, the old one or the new one stands
 --     Rewrites     the same, where a disk whose power failed is started again
 --     Fetches      what stands is read; refused, nothing changes but the power
---     Leaves       a renewal without a cut leaves the new sheet on both copies
+--     Leaves       a renewal without a cut leaves the new sheet on both copies, and a cut names the sector of one of them
 --     Renews       if both copies, two apart, held an old sheet: the old or the new one was read back, or 9; and one of them stands
 use Prim.Native.Nat.{ℕ, _+_, _≤_}
 use mathlib.Core.Path.{_≡_}
@@ -52,7 +52,7 @@ Fetches first second d old (Err x) e new = (new ≡ old) × FetchRefused first s
 -- Both copies are written, or the power failed and was put on again, or stays off; whoever had an old sheet on both has one of the two.
 abbrev pub Rewrites : ℕ → ℕ → List ℕ → DiskState → Result Renewal Fault → DiskState → Type 0
 Rewrites first second new d (Ok Written) e = Both first second new e
-Rewrites first second new d (Ok (Cut s)) e = (old : List ℕ) → Both first second old d → Stands first second old new e
+Rewrites first second new d (Ok (Cut s)) e = ((s ≡ first) ⊎ (s ≡ second)) × ((old : List ℕ) → Both first second old d → Stands first second old new e)
 Rewrites first second new d (Err (PowerOff p)) e = (old : List ℕ) → Both first second old d → Stands first second old new e
 Rewrites first second new d (Err (Unreadable p)) e = ⊥
 Rewrites first second new d (Err NoSuchSector) e = count d ≤ second
@@ -68,5 +68,5 @@ Renews first second new d r e back = first + 2 ≤ second → (old : List ℕ) �
 
 abbrev pub Leaves : ℕ → ℕ → List ℕ → Result Renewal Refusal → DiskState → Type 0
 Leaves first second new (Ok Written) e = Both first second new e
-Leaves first second new (Ok (Cut s)) e = Unit {0}
+Leaves first second new (Ok (Cut s)) e = (s ≡ first) ⊎ (s ≡ second)
 Leaves first second new (Err x) e = Unit {0}

@@ -6,7 +6,7 @@ use Rattle.disk.specs.declared.faults.Fault.{Fault}
 use Rattle.sheet.specs.declared.twins.Renewal.{Renewal}
 use Rattle.sheet.specs.Twins.{Rewrites}
 use Rattle.sheet.proofs.Standing.{same-sectors}
-use Rattle.sheet.proofs.Renewing.{cut-stands, restart-refused}
+use Rattle.sheet.proofs.Renewing.{cut-stands, cut-place, restart-refused}
 use Rattle.sheet.proofs.twins.rewrite.Needs as need
 
 pub returns-in-Break-start : need.returns-in-Break-start
@@ -33,6 +33,9 @@ returns-in-Continue-start g c =
     let e = st (c .start .last .self) in
     let started = c .in-Continue-start .ensures tt .rule in
     record {
-      rule = λ old both. same-sectors (c .args .first) (c .args .second) old (c .args .sheet .now) m e (started .1) (cut-stands (c .args .first) (c .args .second) (c .args .sheet .now) (st (c .args .disk .now)) m (c .in-Err .fault) (c .in-PowerOff .sector) (c .in-PowerOff .is) (c .in-Err .ensures tt .rule) old both);
+      rule = (
+        cut-place (c .args .first) (c .args .second) (c .args .sheet .now) (st (c .args .disk .now)) m (c .in-Err .fault) (c .in-PowerOff .sector) (c .in-PowerOff .is) (c .in-Err .ensures tt .rule),
+        λ old both. same-sectors (c .args .first) (c .args .second) old (c .args .sheet .now) m e (started .1) (cut-stands (c .args .first) (c .args .second) (c .args .sheet .now) (st (c .args .disk .now)) m (c .in-Err .fault) (c .in-PowerOff .sector) (c .in-PowerOff .is) (c .in-Err .ensures tt .rule) old both),
+      );
       same = c .in-Continue-start .ensures tt .same ∙ c .in-Err .ensures tt .same;
     }
