@@ -3,7 +3,7 @@ use crate::bytes::put_sectors;
 use crate::kinds::{on_failing, on_failing_over, on_image, on_window_over};
 use crate::scripts::Answer::*;
 use crate::scripts::Call::*;
-use crate::scripts::{Answer, Call};
+use crate::scripts::{Answer, Call, play_row};
 use failing::failing::Failing;
 use failing::manner::Manner;
 use image::Image;
@@ -47,10 +47,12 @@ const ALL: [Row; 15] = [
 
 // Checks what a write of 9 leaves.
 fn check_row(rt: &impl Abort, (manner, sector, left_0, left_1, left_2): Row) {
-    failing(
+    let mut bytes = [0; 1539];
+    put_sectors(&mut bytes);
+    play_row(
         rt,
-        0,
-        manner,
+        &(manner, sector),
+        &mut Failing::new(Image::new(&mut bytes), 0, manner),
         &[
             (Write(sector, 9), Refused(9, Some(sector))),
             (Read(sector), Refused(9, Some(sector))),
@@ -215,10 +217,6 @@ fn above_a_window_it_stays_in_the_window(rt: HostRuntime) {
         &rt,
         &mut bytes,
         true,
-        &[
-            (Read(0), Holds(1)),
-            (Read(1), Holds(2)),
-            (Read(2), Holds(3)),
-        ],
+        &[(Read(0), Holds(1)), (Read(1), BAD_1), (Read(2), Holds(3))],
     );
 }

@@ -14,6 +14,8 @@ mod kinds;
 #[cfg(test)]
 mod losses;
 #[cfg(test)]
+mod marks;
+#[cfg(test)]
 mod plain;
 #[cfg(test)]
 mod refusals;

@@ -4,9 +4,9 @@ use crate::plain::Plain;
 use crate::scripts::Answer::*;
 use crate::scripts::Call::*;
 use crate::scripts::{Answer, Call, play_any};
-use failing::failing::Failing;
 use failing::manner::Manner;
 use image::Image;
+use marking::marking::Marking;
 use std::process::Abort;
 use window::Window;
 
@@ -23,7 +23,7 @@ fn five(
     let plain = Plain {
         below: Image::new(&mut bytes),
     };
-    let mut disk = Failing::new(plain, calls, manner);
+    let mut disk = Marking::new(plain, calls, manner);
     play_any(rt, &mut disk, script);
     play_any(rt, &mut disk.into_below(), below);
 }
@@ -226,9 +226,9 @@ fn twice(rt: &impl Abort, manner: Manner, script: &[(Call, Answer)]) {
     let mut bytes = [0; 2565];
     put_sectors(&mut bytes);
     let plain = Plain {
-        below: Failing::new(Image::new(&mut bytes), 2, Manner::NewBytes),
+        below: Marking::new(Image::new(&mut bytes), 2, Manner::NewBytes),
     };
-    play_any(rt, &mut Failing::new(plain, 0, manner), script);
+    play_any(rt, &mut Marking::new(plain, 0, manner), script);
 }
 
 #[test]
@@ -294,11 +294,11 @@ fn the_power_below_fails_in_the_chosen_call(rt: HostRuntime) {
     let mut bytes = [0; 2565];
     put_sectors(&mut bytes);
     let plain = Plain {
-        below: Failing::new(Image::new(&mut bytes), 0, Manner::Own),
+        below: Marking::new(Image::new(&mut bytes), 0, Manner::Own),
     };
     play_any(
         &rt,
-        &mut Failing::new(plain, 0, Manner::OwnAndAbove),
+        &mut Marking::new(plain, 0, Manner::OwnAndAbove),
         &[
             (Write(1, 9), Refused(9, Some(1))),
             (Start, Refused(9, Some(0))),
@@ -317,7 +317,7 @@ fn under_a_window(rt: HostRuntime) {
     let plain = Plain {
         below: Image::new(&mut bytes),
     };
-    let mut window = Window::new(Failing::new(plain, 0, Manner::OwnAndBelow), 2, 2);
+    let mut window = Window::new(Marking::new(plain, 0, Manner::OwnAndBelow), 2, 2);
     play_any(
         &rt,
         &mut window,

@@ -3,6 +3,7 @@ use crate::bytes::{count_tail, is_all, put_tail};
 use disk::disks::{Disk, Spoilable};
 use disk::faults::Fault;
 use disk::runs::write_run;
+use std::fmt::Debug;
 use std::process::Abort;
 
 /// A call on a disk.
@@ -86,7 +87,20 @@ pub fn play<D: Spoilable>(rt: &impl Abort, disk: &mut D, script: &[(Call, Answer
     }
 }
 
-/// The same on a disk that may be one that cannot be spoiled. The script has no spoil.
+/// The same for a row of a table, which a wrong answer names.
+pub fn play_row<D: Spoilable>(
+    rt: &impl Abort,
+    row: &impl Debug,
+    disk: &mut D,
+    script: &[(Call, Answer)],
+) {
+    for i in 0..script.len() {
+        let (call, answer) = script[i];
+        assert_eq!(rt; ask(disk, call), Some(answer), "{:?}: {}", row, i);
+    }
+}
+
+/// The same as `play` on a disk that may be one that cannot be spoiled. The script has no spoil.
 pub fn play_any<D: Disk>(rt: &impl Abort, disk: &mut D, script: &[(Call, Answer)]) {
     for i in 0..script.len() {
         let (call, answer) = script[i];

@@ -3,24 +3,24 @@ use crate::bytes::put_sectors;
 use crate::kinds::{on_window, on_window_over};
 use crate::scripts::Answer::*;
 use crate::scripts::Call::*;
+use crate::scripts::play_row;
 use image::Image;
 use std::process::Abort;
 use window::Window;
 
 // Checks that a window has `count` sectors and no more.
 fn has(rt: &impl Abort, bytes: &mut [u8], part: (u32, u32), count: u32) {
-    on_window(
+    let (first, length) = part;
+    play_row(
         rt,
-        bytes,
-        true,
-        part,
+        &part,
+        &mut Window::new(Image::new(bytes), first, length),
         &[
             (Count, Sectors(count)),
             (Read(count), Refused(16, None)),
             (Write(count, 9), Refused(16, None)),
             (Spoil(count), Refused(16, None)),
         ],
-        &[],
     );
 }
 

@@ -1,1 +1,1 @@
-pub mod Masking
+pub mod Spoiled

@@ -1,41 +1,10 @@
 -- A failing disk over a sound disk is a sound disk.
-use Rattle.std.specs.Prelude.{◌≡◌, ℕ, ◌<◌, List, length, Option, Some, None, slice_index_or}
-use Rattle.std.proofs.Common.{arith, sym, ◌∙◌, refl, ⊎_elim}
-use Rattle.std.proofs.lemmas.List.{length-set, get_or-set_other}
-use Rattle.std.proofs.lemmas.Grind.{get_or-set_at}
-use Rattle.std.proofs.lemmas.Bool.{cases_eq}
-use Rattle.disk.specs.Sectors.{Sector, unreadable, holds, DiskState, Sound}
-use Rattle.failing.specs.Marks.{hide}
-use Rattle.failing.specs.Phases.{lost_in, seen}
-use Rattle.failing.specs.declared.phase.Phase.{Phase}
+--     cut_off           a disk's state with the power taken away, if it is
+use Rattle.std.specs.Prelude.{Bool, false, cond}
+use Rattle.disk.specs.Sectors.{DiskState, Sound}
 
-pub length_hide : (mark : Option ℕ) (l : List Sector) → length (hide mark l) ≡ length l
-length_hide None l = refl
-length_hide (Some s) l = length-set l s unreadable
+abbrev pub cut_off : Bool → DiskState → DiskState
+cut_off off d = record { power = cond off false d.power; sectors = d.sectors }
 
--- A sector that can be read is not marked.
-pub hide-holds : (mark : Option ℕ) (l : List Sector) (s : ℕ) (bytes : List ℕ) → s < length l
-    → slice_index_or (hide mark l) s unreadable ≡ holds bytes
-    → slice_index_or l s unreadable ≡ holds bytes
-hide-holds None l s bytes within is = is
-hide-holds (Some t) l s bytes within is =
-    ⊎_elim
-    (λ (e : s ≡ t).
-    let there : t < length l = omega arith in
-    let gone = get_or-set_at l t s unreadable unreadable e there in
-    let odd : unreadable ≡ holds bytes = sym gone ∙ is in
-    cc)
-    (λ ne. sym (get_or-set_other l t s unreadable unreadable ne) ∙ is)
-    (cases_eq s t)
-
-pub failing-sound : (phase : Phase) (d : DiskState) → Sound d → Sound (seen phase d)
-failing-sound phase d sound =
-    let lost = lost_in phase in
-    let long = length_hide lost.neighbour (hide lost.own d.sectors) ∙ length_hide lost.own d.sectors in
-    record {
-      few = omega (arith, sound.few, long);
-      whole = λ s bytes at.
-          let within : s < length d.sectors = omega (arith, at.exists, long) in
-          let inner : s < length (hide lost.own d.sectors) = omega (arith, length_hide lost.own d.sectors) in
-          sound.whole s bytes (record { exists = within; is = hide-holds lost.own d.sectors s bytes within (hide-holds lost.neighbour (hide lost.own d.sectors) s bytes inner at.is) });
-    }
+pub failing-sound : (off : Bool) (d : DiskState) → Sound d → Sound (cut_off off d)
+failing-sound off d sound = record { few = sound.few; whole = λ s bytes at. sound.whole s bytes (record { exists = at.exists; is = at.is }) }

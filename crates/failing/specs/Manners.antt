@@ -1,8 +1,9 @@
--- The manners of a cut.
---     leaves           the sectors that a write of bytes to sector s leaves, in each manner
---     stores           the sectors that are on the disk below after it: with the new bytes, or as before
---     number_of        a number for each manner
-use Rattle.std.specs.Prelude.{ℕ, ◌+◌, ◌-◌, List, slice_set}
+-- The manners of a cut, and the calls that are left until it.
+--     leaves       the sectors that a write of bytes to sector s leaves, in each manner
+--     number_of    a number for each manner
+--     is_due       no call is left before the one that fails
+--     less_one     one call fewer is left
+use Rattle.std.specs.Prelude.{ℕ, ◌+◌, ◌-◌, Bool, false, List, Some, None, Option, ◌==◌, slice_set}
 use Rattle.disk.specs.Sectors.{Sector, unreadable, holds}
 use Rattle.failing.specs.declared.manner.Manner.{Manner}
 use Rattle.failing.specs.declared.manner.Manner.TheVariants.{AsBefore, NewBytes, Own, OwnAndBelow, OwnAndAbove}
@@ -14,16 +15,17 @@ leaves Own s bytes l = slice_set l s unreadable
 leaves OwnAndBelow s bytes l = slice_set (slice_set l s unreadable) (s - 1) unreadable
 leaves OwnAndAbove s bytes l = slice_set (slice_set l s unreadable) (s + 1) unreadable
 
-abbrev pub stores : Manner → ℕ → List ℕ → List Sector → List Sector
-stores AsBefore s bytes l = l
-stores NewBytes s bytes l = slice_set l s (holds bytes)
-stores Own s bytes l = l
-stores OwnAndBelow s bytes l = l
-stores OwnAndAbove s bytes l = l
-
 abbrev pub number_of : Manner → ℕ
 number_of AsBefore = 0
 number_of NewBytes = 1
 number_of Own = 2
 number_of OwnAndBelow = 3
 number_of OwnAndAbove = 4
+
+abbrev pub is_due : Option ℕ → Bool
+is_due None = false
+is_due (Some calls) = calls == 0
+
+abbrev pub less_one : Option ℕ → Option ℕ
+less_one None = None
+less_one (Some calls) = Some (calls - 1)

@@ -1,91 +1,86 @@
--- A failing disk's parts and its meaning, for crates that do not see its fields. `m.state` and `m.layers` are those of the disk below.
---     below_of, manner_of, phase_of    the disk below, the manner, and where in its course the disk is
---     failing_state, failing_layers    its state and what no call changes of it
---     Waits                            a call before the chosen one is the disk below's own, and counts where it is done
---     StartDue, ReadDue, WriteDue      the chosen call, where the disk below could carry it out and keeps its power: 9, power off, by the chosen manner
---     Refuses                          a call that the disk below refuses does not count
---     Rests                            with the power taken away nothing at all changes
---     StartAgain                       a start after the failure is the disk below's own, and puts the power on
---     ReadAgain, WriteAgain            with the power on again a lost sector is not read, and every other call is the disk below's own
---     Spoiled                          spoiling is the disk below's own, and counts for nothing
-use Rattle.std.specs.Prelude.{◌≡◌, ℕ, ◌<◌, true, false, List, [], ◌∷◌, Ok, Err, ◌⊎◌}
+-- A failing disk's parts and its meaning, for crates that do not see its fields. `state` and `layers` are those of the disk below.
+--     below_of, left_of, manner_of, off_of    the disk below, the calls left until the power fails, the manner, and whether this disk took the power away
+--     failing_state, failing_layers           its state and what no call changes of it
+--     Waits, StartWaits                       a call before the chosen one is the disk below's own, and counts where it is done
+--     Rests                                   with the power taken away nothing at all changes
+--     Refuses, StartRefuses                   a call that the disk below refuses does not count
+--     Spoiled                                 spoiling is the disk below's own, and counts for nothing
+--     StartDue, ReadDue, WriteDue             the chosen call, where the disk below could carry it out and keeps its power: 9, power off, by the chosen manner
+use Rattle.std.specs.Prelude.{◌≡◌, ℕ, ◌<◌, Bool, true, false, List, [], ◌∷◌, None, Ok, Err, Option}
 use Rattle.disk.specs.Sectors.{DiskState, holds, count, At}
 use Rattle.disk.specs.Layers.{Layers, over}
 use Rattle.disk.specs.Faults.{Answer}
-use Rattle.disk.specs.Rules.{Starts, Reads, Writes, Spoils}
-use Rattle.disk.specs.declared.disks.Disk.{Ghosts}
+use Rattle.disk.specs.Rules.{Starts, Spoils}
 use Rattle.disk.specs.declared.faults.Fault.TheVariants.{PowerOff, Unreadable, NoSuchSector}
-use Rattle.failing.specs.Marks.{IsLost, none, lost_by, kept}
-use Rattle.failing.specs.Manners.{leaves, stores, number_of}
-use Rattle.failing.specs.Phases.{seen, lessened, dark, again}
-use Rattle.failing.specs.declared.lost.Lost.{Lost}
+use Rattle.failing.specs.Manners.{leaves, number_of, is_due, less_one}
+use Rattle.failing.specs.FailingSound.{cut_off}
 use Rattle.failing.specs.declared.manner.Manner.{Manner}
-use Rattle.failing.specs.declared.phase.Phase.{Phase}
-use Rattle.failing.specs.declared.phase.Phase.TheVariants.{Before, Off, On}
 use Rattle.failing.specs.declared.failing.Failing.{Failing}
 
-module _ {D : Type 0} {m : Ghosts D} where
-  abbrev pub below_of : Failing D m → D
-  below_of f = f.below
+abbrev pub below_of : {D : Type 0} → Failing D → D
+below_of f = f.below
 
-  abbrev pub manner_of : Failing D m → Manner
-  manner_of f = f.manner
+abbrev pub left_of : {D : Type 0} → Failing D → Option ℕ
+left_of f = f.left
 
-  abbrev pub phase_of : Failing D m → Phase
-  phase_of f = f.phase
+abbrev pub manner_of : {D : Type 0} → Failing D → Manner
+manner_of f = f.manner
 
-  abbrev pub failing_state : Failing D m → DiskState
-  failing_state f = seen f.phase (m.state f.below)
+abbrev pub off_of : {D : Type 0} → Failing D → Bool
+off_of f = f.off
 
-  abbrev pub failing_layers : Failing D m → Layers
-  failing_layers f = over (number_of f.manner ∷ []) (m.layers f.below)
+abbrev pub failing_state : {D : Type 0} → (D → DiskState) → Failing D → DiskState
+failing_state state f = cut_off f.off (state f.below)
 
-  -- `Does` says what the disk below did by itself.
-  abbrev pub Waits : Failing D m → Answer → Failing D m → Type 0 → Type 0
-  Waits f r g Does = (calls : ℕ) → f.phase ≡ Before calls → 0 < calls → Does × (g.phase ≡ Before (lessened r calls))
+abbrev pub failing_layers : {D : Type 0} → (D → Layers) → Failing D → Layers
+failing_layers layers f = over (number_of f.manner ∷ []) (layers f.below)
 
-  abbrev pub Refuses : Failing D m → Answer → Failing D m → Type 0
-  Refuses f (Ok _) g = Unit {0}
-  Refuses f (Err (PowerOff p)) g = (m.state g.below).power ≡ false → g.phase ≡ dark f.phase
-  Refuses f (Err (Unreadable p)) g = g.phase ≡ f.phase
-  Refuses f (Err NoSuchSector) g = g.phase ≡ f.phase
+abbrev pub lessened : Answer → Option ℕ → Option ℕ
+lessened (Ok _) left = less_one left
+lessened (Err _) left = left
 
-  abbrev pub Rests : Failing D m → Failing D m → Type 0
-  Rests f g = (lost : Lost) → f.phase ≡ Off lost → g ≡ f
+-- `Does` says what the disk below did by itself.
+abbrev pub Waits : {D : Type 0} → Failing D → Answer → Failing D → Type 0 → Type 0
+Waits f r g Does = f.off ≡ false → is_due f.left ≡ false → Does × (g.off ≡ false) × (g.left ≡ lessened r f.left)
 
-  -- The disk's own failure: it answers 9 for the sector s, and its power is off.
-  abbrev pub Fails : ℕ → Lost → Answer → Failing D m → Type 0
-  Fails s lost r g = (r ≡ Err (PowerOff s)) × (g.phase ≡ Off lost)
+abbrev pub off_after : Answer → Bool → Bool
+off_after (Ok _) off = false
+off_after (Err _) off = off
 
-  abbrev pub StartDue : Failing D m → Answer → Failing D m → Type 0
-  StartDue f r g = f.phase ≡ Before 0 → (m.state g.below).power ≡ true → Fails 0 none r g
+abbrev pub StartWaits : {D : Type 0} → (D → DiskState) → Failing D → Answer → Failing D → Type 0
+StartWaits state f r g =
+    is_due f.left ≡ false → Starts (state f.below) r (state g.below) × (g.off ≡ off_after r f.off) × (g.left ≡ lessened r f.left)
 
-  abbrev pub ReadDue : ℕ → Failing D m → Answer → Failing D m → Type 0
-  ReadDue s f r g =
-      f.phase ≡ Before 0 → (m.state f.below).power ≡ true → (bytes : List ℕ) → At (m.state f.below) s (holds bytes)
-      → (m.state g.below).power ≡ true
-      → Fails s none r g
+abbrev pub Rests : {D : Type 0} → Failing D → Failing D → Type 0
+Rests f g = f.off ≡ true → g ≡ f
 
-  abbrev pub WriteDue : ℕ → List ℕ → Failing D m → Answer → Failing D m → Type 0
-  WriteDue s bytes f r g =
-      f.phase ≡ Before 0 → (m.state f.below).power ≡ true → s < count (m.state f.below)
-      → (m.state g.below).power ≡ true
-      → Fails s (lost_by f.manner s) r g
-      × ((failing_state g).sectors ≡ leaves f.manner s bytes (failing_state f).sectors)
-      × ((m.state g.below).sectors ≡ stores f.manner s bytes (m.state f.below).sectors)
+abbrev pub Refuses : {D : Type 0} → Failing D → Answer → Failing D → Type 0
+Refuses f (Ok _) g = Unit {0}
+Refuses f (Err (PowerOff p)) g = g.off ≡ f.off → g.left ≡ f.left
+Refuses f (Err (Unreadable p)) g = (g.left ≡ f.left) × (g.off ≡ f.off)
+Refuses f (Err NoSuchSector) g = (g.left ≡ f.left) × (g.off ≡ f.off)
 
-  abbrev pub StartAgain : Failing D m → Answer → Failing D m → Type 0
-  StartAgain f r g = (lost : Lost) → (f.phase ≡ Off lost) ⊎ (f.phase ≡ On lost) → Starts (m.state f.below) r (m.state g.below) × (g.phase ≡ again r lost)
+abbrev pub StartRefuses : {D : Type 0} → (D → DiskState) → Failing D → Failing D → Type 0
+StartRefuses state f g = (state g.below).power ≡ false → (g.left ≡ f.left) × (g.off ≡ f.off)
 
-  abbrev pub ReadAgain : ℕ → Failing D m → List ℕ → Answer → Failing D m → List ℕ → Type 0
-  ReadAgain s f old r g new =
-      (lost : Lost) → f.phase ≡ On lost
-      → (IsLost s lost (m.state f.below) → (r ≡ Err (Unreadable s)) × (g ≡ f))
-      × ((IsLost s lost (m.state f.below) → ⊥) → Reads s (m.state f.below) old r (m.state g.below) new × (g.phase ≡ again r lost))
+abbrev pub Spoiled : {D : Type 0} → (D → DiskState) → ℕ → Failing D → Answer → Failing D → Type 0
+Spoiled state s f r g = Spoils s (state f.below) r (state g.below) × (g.left ≡ f.left) × (g.off ≡ f.off)
 
-  abbrev pub WriteAgain : ℕ → List ℕ → Failing D m → Answer → Failing D m → Type 0
-  WriteAgain s bytes f r g =
-      (lost : Lost) → f.phase ≡ On lost → Writes s bytes (m.state f.below) r (m.state g.below) × (g.phase ≡ again r (kept r s lost))
+-- The disk's own failure: it answers 9 for the sector s, and takes the power away for once.
+abbrev pub Fails : {D : Type 0} → ℕ → Answer → Failing D → Type 0
+Fails s r g = (r ≡ Err (PowerOff s)) × (g.off ≡ true) × (g.left ≡ None)
 
-  abbrev pub Spoiled : ℕ → Failing D m → Answer → Failing D m → Type 0
-  Spoiled s f r g = Spoils s (m.state f.below) r (m.state g.below) × (g.phase ≡ f.phase)
+abbrev pub StartDue : {D : Type 0} → (D → DiskState) → Failing D → Answer → Failing D → Type 0
+StartDue state f r g = is_due f.left ≡ true → (state g.below).power ≡ true → Fails 0 r g
+
+abbrev pub ReadDue : {D : Type 0} → (D → DiskState) → ℕ → Failing D → Answer → Failing D → Type 0
+ReadDue state s f r g =
+    f.off ≡ false → is_due f.left ≡ true → (state f.below).power ≡ true → (bytes : List ℕ) → At (state f.below) s (holds bytes)
+    → (state g.below).power ≡ true
+    → Fails s r g
+
+abbrev pub WriteDue : {D : Type 0} → (D → DiskState) → ℕ → List ℕ → Failing D → Answer → Failing D → Type 0
+WriteDue state s bytes f r g =
+    f.off ≡ false → is_due f.left ≡ true → (state f.below).power ≡ true → s < count (state f.below)
+    → (state g.below).power ≡ true
+    → Fails s r g × ((state g.below).sectors ≡ leaves f.manner s bytes (state f.below).sectors)

@@ -2,6 +2,4 @@
 #![tactic(auto)]
 
 pub mod failing;
-mod lost;
 pub mod manner;
-mod phase;

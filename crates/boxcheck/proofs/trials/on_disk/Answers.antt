@@ -1,6 +1,6 @@
 use Rattle.std.proofs.Common.{◌≡◌, replicate, sym, ap, subst, arith}
 use Rattle.sheet.specs.Twins.{Both}
-use Rattle.failing.specs.OfFailing.{failing_state}
+use Rattle.marking.specs.OfMarking.{marking_state}
 use Rattle.boxcheck.proofs.Telling.{told}
 use Rattle.boxcheck.proofs.NeverOther.{never-other, both-written, both-seen}
 use Rattle.boxcheck.proofs.trials.on_disk.Goals as goal
@@ -18,5 +18,5 @@ returns g c =
     let how = c.in_ok-renewal.renewal in
     record {
       law = never-other c.renew-2.new.back old new c.which-came.result how c.which-came.ensures law.0;
-      tells = told old new c.renew.new.back c.renew-2.new.back c.fetch.new.back c.args.manner (failing_state disk) (failing_state c.renew-2.new.disk) (failing_state c.fetch.new.disk) (failing_state c.survey.new.disk) how c.cut_of-cut.result c.in_ok-readable.readable c.which-came.result c.in_ok-source.source seen c.in_ok-renewal.ensures.rule c.in_ok-source.ensures.rule c.in_ok-readable.ensures.rule c.which-came.ensures c.cut_of-cut.ensures;
+      tells = told old new c.renew.new.back c.renew-2.new.back c.fetch.new.back c.args.manner (marking_state disk) (marking_state c.renew-2.new.disk) (marking_state c.fetch.new.disk) (marking_state c.survey.new.disk) how c.cut_of-cut.result c.in_ok-readable.readable c.which-came.result c.in_ok-source.source seen c.in_ok-renewal.ensures.rule c.in_ok-source.ensures.rule c.in_ok-readable.ensures.rule c.which-came.ensures c.cut_of-cut.ensures;
     }

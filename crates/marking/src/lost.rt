@@ -1,9 +1,9 @@
 // The sectors that a cut made unreadable, of which the disk below knows nothing.
 ghost use Rattle.std.specs.Prelude.{◌≡◌, ◌<◌};
-ghost use Rattle.failing.specs.Marks.{lost_by, is_lost, unless, kept};
+ghost use Rattle.marking.specs.Marks.{lost_by, is_lost, unless, kept};
 
-use crate::manner::Manner;
 use disk::faults::Fault;
+use failing::manner::Manner;
 
 /// A mark for the sector that was written, and one for its neighbour.
 #[derive(Clone, Copy)]

@@ -9,7 +9,7 @@
 use Rattle.std.specs.Prelude.{◌≡◌, ℕ, ◌<◌, ◌+◌, ◌-◌, Bool, true, false, List, Some, None, Ok, Err, Option, ◌==◌, ◌||◌, cond, slice_set}
 use Rattle.disk.specs.Sectors.{Sector, unreadable, DiskState, count}
 use Rattle.disk.specs.Faults.{Answer}
-use Rattle.failing.specs.declared.lost.Lost.{Lost}
+use Rattle.marking.specs.declared.lost.Lost.{Lost}
 use Rattle.failing.specs.declared.manner.Manner.{Manner}
 use Rattle.failing.specs.declared.manner.Manner.TheVariants.{AsBefore, NewBytes, Own, OwnAndBelow, OwnAndAbove}
 

@@ -1,4 +1,4 @@
--- The course of a failing disk.
+-- The course of a marking disk.
 --     lost_in          the sectors that are lost in a phase
 --     is_on            the power was put on again
 --     power_in, seen   the power of the disk below, and all of it, as it is seen in a phase
@@ -9,10 +9,10 @@ use Rattle.std.specs.Prelude.{ℕ, ◌-◌, Bool, true, false, Ok, Err}
 use Rattle.disk.specs.Sectors.{DiskState}
 use Rattle.disk.specs.Faults.{Answer}
 use Rattle.disk.specs.declared.faults.Fault.TheVariants.{PowerOff, Unreadable, NoSuchSector}
-use Rattle.failing.specs.Marks.{none, masked}
-use Rattle.failing.specs.declared.lost.Lost.{Lost}
-use Rattle.failing.specs.declared.phase.Phase.{Phase}
-use Rattle.failing.specs.declared.phase.Phase.TheVariants.{Before, Off, On}
+use Rattle.marking.specs.Marks.{none, masked}
+use Rattle.marking.specs.declared.lost.Lost.{Lost}
+use Rattle.marking.specs.declared.phase.Phase.{Phase}
+use Rattle.marking.specs.declared.phase.Phase.TheVariants.{Before, Off, On}
 
 abbrev pub lost_in : Phase → Lost
 lost_in (Before calls) = none

@@ -1,6 +1,6 @@
-// The course of a failing disk: its power fails once.
+// The course of a marking disk: its power fails once.
 ghost use Rattle.std.specs.Prelude.{◌≡◌};
-ghost use Rattle.failing.specs.Phases.{again};
+ghost use Rattle.marking.specs.Phases.{again};
 
 use crate::lost::Lost;
 use disk::faults::Fault;

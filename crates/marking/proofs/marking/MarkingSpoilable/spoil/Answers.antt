@@ -1,5 +1,5 @@
-use Rattle.failing.proofs.Masking.{spoils-seen}
-use Rattle.failing.proofs.failing.FailingSpoilable.spoil.Goals as goal
+use Rattle.marking.proofs.Masking.{spoils-seen}
+use Rattle.marking.proofs.marking.MarkingSpoilable.spoil.Goals as goal
 
 pub returns-clause-rule : goal.returns-clause-rule
 returns-clause-rule g c =

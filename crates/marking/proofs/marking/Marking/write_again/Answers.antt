@@ -1,7 +1,7 @@
 use Rattle.std.proofs.Common.{◌≡◌, true, ap}
-use Rattle.failing.proofs.Masking.{writes-seen}
-use Rattle.failing.specs.Phases.{is_on}
-use Rattle.failing.proofs.failing.Failing.write_again.Goals as goal
+use Rattle.marking.proofs.Masking.{writes-seen}
+use Rattle.marking.specs.Phases.{is_on}
+use Rattle.marking.proofs.marking.Marking.write_again.Goals as goal
 
 pub returns-clause-rule : goal.returns-clause-rule
 returns-clause-rule g c =

@@ -15,12 +15,12 @@ use Rattle.disk.specs.Sectors.{Sector, unreadable, holds, DiskState, At}
 use Rattle.disk.specs.Faults.{Answer}
 use Rattle.disk.specs.Rules.{ReadOff, read-was-off, read-failed, Reads, Cut, cut-before, cut-new, cut-own, cut-below, cut-above, WriteOff, write-was-off, write-failed, Writes, Spoils}
 use Rattle.disk.specs.declared.faults.Fault.TheVariants.{PowerOff, Unreadable, NoSuchSector}
-use Rattle.failing.specs.Marks.{names, is_lost, IsLost, unless, without, kept, hide, masked}
-use Rattle.failing.specs.Phases.{lost_in, power_in, seen, again}
-use Rattle.failing.specs.FailingSound.{length_hide}
-use Rattle.failing.specs.declared.lost.Lost.{Lost}
-use Rattle.failing.specs.declared.phase.Phase.{Phase}
-use Rattle.failing.specs.declared.phase.Phase.TheVariants.{Off, On}
+use Rattle.marking.specs.Marks.{names, is_lost, IsLost, unless, without, kept, hide, masked}
+use Rattle.marking.specs.Phases.{lost_in, power_in, seen, again}
+use Rattle.marking.specs.MarkingSound.{length_hide}
+use Rattle.marking.specs.declared.lost.Lost.{Lost}
+use Rattle.marking.specs.declared.phase.Phase.{Phase}
+use Rattle.marking.specs.declared.phase.Phase.TheVariants.{Off, On}
 
 is_false : (b : Bool) → (b ≡ true → ⊥) → b ≡ false
 is_false true h = absurd (h refl)

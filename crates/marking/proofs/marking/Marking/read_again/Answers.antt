@@ -1,9 +1,9 @@
 use Rattle.std.proofs.Common.{◌≡◌, true, ap, arith}
 use Rattle.std.proofs.lemmas.Grind.{common_steps}
-use Rattle.failing.specs.Marks.{IsLost}
-use Rattle.failing.proofs.Masking.{reads-seen}
-use Rattle.failing.specs.Phases.{is_on}
-use Rattle.failing.proofs.failing.Failing.read_again.Goals as goal
+use Rattle.marking.specs.Marks.{IsLost}
+use Rattle.marking.proofs.Masking.{reads-seen}
+use Rattle.marking.specs.Phases.{is_on}
+use Rattle.marking.proofs.marking.Marking.read_again.Goals as goal
 
 pub returns-clause-rule : goal.returns-clause-rule
 returns-clause-rule g c =

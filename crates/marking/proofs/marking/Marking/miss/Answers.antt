@@ -1,7 +1,7 @@
 use Rattle.std.proofs.Common.{refl, ap}
 use Rattle.disk.specs.Sectors.{DiskState}
 use Rattle.disk.specs.Rules.{read-failed}
-use Rattle.failing.proofs.failing.Failing.miss.Goals as goal
+use Rattle.marking.proofs.marking.Marking.miss.Goals as goal
 
 pub returns-clause-rule : goal.returns-clause-rule
 returns-clause-rule g c =

@@ -1,0 +1,157 @@
+// A power that fails in a chosen call of a disk that marks what it lost, over three sectors that hold 1, 2 and 3.
+use crate::bytes::put_sectors;
+use crate::kinds::on_image;
+use crate::scripts::Answer::*;
+use crate::scripts::Call::*;
+use crate::scripts::{Answer, Call, play, play_any};
+use failing::manner::Manner;
+use image::Image;
+use marking::marking::Marking;
+use std::process::Abort;
+use window::Window;
+
+// Plays a script on the disk whose power fails after `calls` calls, and then one on the disk below, given back.
+fn marking(
+    rt: &impl Abort,
+    calls: u32,
+    manner: Manner,
+    script: &[(Call, Answer)],
+    below: &[(Call, Answer)],
+) {
+    let mut bytes = [0; 1539];
+    put_sectors(&mut bytes);
+    let mut disk = Marking::new(Image::new(&mut bytes), calls, manner);
+    play(rt, &mut disk, script);
+    play(rt, &mut disk.into_below(), below);
+}
+
+// Sectors that are unreadable.
+const BAD_0: Answer = Refused(10, Some(0));
+
+const BAD_1: Answer = Refused(10, Some(1));
+
+#[test]
+fn above_a_window_the_disk_below_is_as_before(rt: HostRuntime) {
+    let mut bytes = [0; 1539];
+    put_sectors(&mut bytes);
+    let mut disk = Marking::new(
+        Window::new(Image::new(&mut bytes), 1, 1),
+        0,
+        Manner::OwnAndBelow,
+    );
+    play_any(
+        &rt,
+        &mut disk,
+        &[
+            (Write(0, 9), Refused(9, Some(0))),
+            (Start, Done),
+            (Read(0), BAD_0),
+        ],
+    );
+    play_any(&rt, &mut disk.into_below(), &[(Count, Sectors(1))]);
+    on_image(
+        &rt,
+        &mut bytes,
+        true,
+        &[
+            (Read(0), Holds(1)),
+            (Read(1), Holds(2)),
+            (Read(2), Holds(3)),
+        ],
+    );
+}
+
+#[test]
+fn a_spoiled_sector_is_cut_as_any_other(rt: HostRuntime) {
+    marking(
+        &rt,
+        0,
+        Manner::AsBefore,
+        &[
+            (Spoil(1), Done),
+            (Write(1, 9), Refused(9, Some(1))),
+            (Start, Done),
+            (Read(1), BAD_1),
+        ],
+        &[(Read(1), BAD_1)],
+    );
+    marking(
+        &rt,
+        0,
+        Manner::NewBytes,
+        &[
+            (Spoil(1), Done),
+            (Write(1, 9), Refused(9, Some(1))),
+            (Start, Done),
+            (Read(1), Holds(9)),
+        ],
+        &[(Read(1), Holds(9))],
+    );
+}
+
+#[test]
+fn a_lost_sector_that_is_spoiled_stays_spoiled_below(rt: HostRuntime) {
+    marking(
+        &rt,
+        0,
+        Manner::OwnAndAbove,
+        &[
+            (Write(0, 9), Refused(9, Some(0))),
+            (Spoil(0), Done),
+            (Spoil(3), Refused(16, None)),
+            (Start, Done),
+            (Read(0), BAD_0),
+            (Read(1), BAD_1),
+        ],
+        &[(Read(0), BAD_0), (Read(1), Holds(2))],
+    );
+}
+
+#[test]
+fn a_chosen_start_and_a_chosen_read_lose_no_sector(rt: HostRuntime) {
+    marking(
+        &rt,
+        1,
+        Manner::Own,
+        &[
+            (Write(1, 9), Done),
+            (Start, Refused(9, Some(0))),
+            (Read(1), Refused(9, Some(1))),
+            (Start, Done),
+            (Read(1), Holds(9)),
+        ],
+        &[],
+    );
+    marking(
+        &rt,
+        1,
+        Manner::Own,
+        &[
+            (Write(1, 9), Done),
+            (Read(1), Refused(9, Some(1))),
+            (Read(0), Refused(9, Some(0))),
+            (Start, Done),
+            (Read(1), Holds(9)),
+        ],
+        &[],
+    );
+}
+
+#[test]
+fn refused_calls_do_not_count(rt: HostRuntime) {
+    marking(
+        &rt,
+        1,
+        Manner::Own,
+        &[
+            (Read(3), Refused(16, None)),
+            (Write(3, 9), Refused(16, None)),
+            (Spoil(1), Done),
+            (Read(1), BAD_1),
+            (Read(0), Holds(1)),
+            (Read(1), BAD_1),
+            (Read(0), Refused(9, Some(0))),
+        ],
+        &[],
+    );
+}
