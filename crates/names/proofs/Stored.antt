@@ -2,15 +2,16 @@
 --     stored-name      a good text filled up with zeros is a name
 --     joined-bytes     the bytes of a name and the two of a number, written into 22 zeros
 --     stored-key       a name and a version are a key
+--     stored-byte-key  its last byte is below 256
 --     filled-empty     no text filled up is 20 zeros
---     key-bytes        the bytes of a key are below 256
+--     key-bytes        if the last byte of a key is below 256, all its bytes are
 use Rattle.std.proofs.Common.{◌≡◌, ℕ, zero, suc, ◌-◌, ◌/◌, ◌%◌, ◌<◌, ◌≤◌, true, false, cond, ◌&&◌, ◌==◌, List, [], ◌∷◌, ◌++◌, length, get_or, take, drop, set, replicate, sym, refl, ap, ◌∙◌, ap₂, subst, arith}
 use Rattle.std.specs.List.{AllByRecursion}
 use Rattle.std.proofs.ByRecursion.{All-append}
 use Rattle.std.proofs.lemmas.Bool.Decides.{nat_tests}
 use Rattle.std.proofs.lemmas.List.{drop_more, drop_all, take-append-drop, length-append, length-replicate, take_at, get_or-append_right, set_at, set-append_right}
 use Rattle.std.proofs.lemmas.Bool.{and_from, and_parts, eq-eqb, eqb-true, le-leb, lt-ltb, leb-true, ltb-true}
-use Rattle.names.specs.Names.{letter, letters, zeros, letters_then_zeros, GoodName, filled, is_name, two_bytes, version_of, is_key}
+use Rattle.names.specs.Names.{letter, letters, zeros, letters_then_zeros, GoodName, filled, is_name, two_bytes, version_of, is_key, is_byte_key}
 use Rattle.names.specs.Versions.{highest, InRange}
 
 zeros-only : (n : ℕ) → zeros (replicate n 0) ≡ true
@@ -58,8 +59,14 @@ stored-key key name n is good range =
     let low : get_or key 21 0 ≡ n % 256 = ap (λ l. get_or l 21 0) is ∙ get_or-append_right name (two_bytes n) 20 21 0 long (omega arith) in
     let version : version_of key ≡ n = omega arith in
     and_from _ _
-    (and_from _ _ (and_from _ _ (and_from _ _ (eq-eqb (length key) 22 whole) (ap is_name front ∙ good)) (le-leb 1 (version_of key) (omega arith))) (le-leb (version_of key) highest (omega arith)))
-    (lt-ltb (get_or key 21 0) 256 (omega arith))
+    (and_from _ _ (and_from _ _ (eq-eqb (length key) 22 whole) (ap is_name front ∙ good)) (le-leb 1 (version_of key) (omega arith)))
+    (le-leb (version_of key) highest (omega arith))
+
+pub stored-byte-key : (key name : List ℕ) (n : ℕ) → key ≡ name ++ two_bytes n → is_name name ≡ true → InRange n → is_byte_key key ≡ true
+stored-byte-key key name n is good range =
+    let long : length name ≡ 20 = eqb-true (length name) 20 (and_parts _ _ (and_parts _ _ good).0).0 in
+    let low : get_or key 21 0 ≡ n % 256 = ap (λ l. get_or l 21 0) is ∙ get_or-append_right name (two_bytes n) 20 21 0 long (omega arith) in
+    and_from _ _ (stored-key key name n is good range) (lt-ltb (get_or key 21 0) 256 (omega arith))
 
 pub filled-empty : (text : List ℕ) → length text ≡ 0 → replicate 20 0 ≡ filled text
 filled-empty [] e = refl
@@ -86,8 +93,8 @@ follow-small (b ∷ bytes) h =
       | false ↦ λ l r. let both = and_parts (b == 0) (zeros bytes) r in let z = eqb-true b 0 both.0 in (omega arith, zeros-small bytes both.1)
     ] refl h
 
--- Those of a key are 22, each below 256.
-pub key-bytes : (key : List ℕ) → is_key key ≡ true → AllByRecursion (λ b. b < 256) key
+-- Those of a stored key are 22, each below 256.
+pub key-bytes : (key : List ℕ) → is_byte_key key ≡ true → AllByRecursion (λ b. b < 256) key
 key-bytes key h =
     let a = and_parts _ _ h in
     let b = and_parts _ _ a.0 in

@@ -10,6 +10,7 @@
 --     two_bytes             a number in two bytes, the higher first
 --     version_of            the number in the last two bytes of a key
 --     is_key                the 22 bytes of a key: a name, and a version from 1 to 9,999
+--     is_byte_key           a key whose last byte is below 256, as that of every stored key is
 use Rattle.std.specs.Prelude.{◌≡◌, ℕ, ◌+◌, ◌-◌, ◌*◌, ◌/◌, ◌%◌, ◌≤◌, Bool, true, cond, ◌&&◌, ◌||◌, List, [], ◌∷◌, ◌++◌, length, take, replicate, ◌==◌, nat_le, nat_lt, slice_index}
 use Rattle.names.specs.Versions.{highest}
 
@@ -47,4 +48,7 @@ abbrev pub version_of : List ℕ → ℕ
 version_of key = slice_index key 20 * 256 + slice_index key 21
 
 abbrev pub is_key : List ℕ → Bool
-is_key key = length key == 22 && is_name (take 20 key) && nat_le 1 (version_of key) && nat_le (version_of key) highest && nat_lt (slice_index key 21) 256
+is_key key = length key == 22 && is_name (take 20 key) && nat_le 1 (version_of key) && nat_le (version_of key) highest
+
+abbrev pub is_byte_key : List ℕ → Bool
+is_byte_key key = is_key key && nat_lt (slice_index key 21) 256

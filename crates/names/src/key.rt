@@ -1,6 +1,6 @@
 // The key of a file: its name and its version.
 ghost use Rattle.std.specs.Prelude.{◌≡◌, true, false, ◌++◌, take, Some, None};
-ghost use Rattle.names.specs.Names.{is_key, two_bytes, version_of};
+ghost use Rattle.names.specs.Names.{is_key, is_byte_key, two_bytes, version_of};
 ghost use Rattle.names.specs.Orders.{before, Total};
 ghost use Rattle.names.specs.Versions.{InRange};
 
@@ -12,6 +12,7 @@ use crate::version::{HIGHEST, Version};
 pub struct Key {
     pub bytes: [u8; 22],
     ghost good: { is_key bytes ≡ true },
+    ghost stored: { is_byte_key bytes ≡ true },
 }
 
 impl Key {

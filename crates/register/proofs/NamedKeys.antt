@@ -10,7 +10,7 @@ use Rattle.std.proofs.ByRecursion.{All-get_or}
 use Rattle.std.specs.Cmp.Lexicographic.{bytes_decides}
 use Rattle.std.proofs.lemmas.List.{take-append-drop, length-take, drop_all, get_or-append_right, take_at}
 use Rattle.std.proofs.lemmas.Bool.Decides.{nat_tests}
-use Rattle.names.specs.Names.{is_key, two_bytes, version_of}
+use Rattle.names.specs.Names.{is_byte_key, two_bytes, version_of}
 use Rattle.names.specs.Versions.{highest}
 use Rattle.names.specs.Orders.{before}
 use Rattle.pages.specs.Bytes.{AreBytes}
@@ -23,7 +23,7 @@ use Rattle.register.proofs.FrontOrder.{same-front, between}
 abbrev pub last_key : List ℕ → List ℕ
 last_key name = name ++ two_bytes 9999
 
-pub key-version : (k : List ℕ) → is_key k ≡ true → version_of k ≤ highest
+pub key-version : (k : List ℕ) → is_byte_key k ≡ true → version_of k ≤ highest
 key-version k good = grind (arith, nat_tests)
 
 last-rest : (a b : ℕ) → a * 256 + b ≤ 9999 → before (two_bytes 9999) (a ∷ b ∷ []) ≡ false
@@ -53,7 +53,7 @@ module _ (name : List ℕ) where
       sym (take-append-drop 20 e.key) ∙ ap₂ (λ front rest. front ++ rest) (front-is e named)
       (drop-cons e.key 20 0 (omega arith) ∙ ap (λ rest. get_or e.key 20 0 ∷ rest) (drop-cons e.key 21 0 (omega arith) ∙ ap (λ rest. get_or e.key 21 0 ∷ rest) (drop_all 22 e.key (omega arith))))
 
-  pub last-not-below : (e : Entry) → is_key e.key ≡ true → has_name name e ≡ true → before (last_key name) e.key ≡ false
+  pub last-not-below : (e : Entry) → is_byte_key e.key ≡ true → has_name name e ≡ true → before (last_key name) e.key ≡ false
   last-not-below e good named =
       ap (before (last_key name)) (named-is e (key-long e.key good) named) ∙ same-front name (two_bytes 9999) (rest e) ∙ last-rest (get_or e.key 20 0) (get_or e.key 21 0) (key-version e.key good)
 

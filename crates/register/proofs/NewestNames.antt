@@ -9,7 +9,7 @@ use Rattle.std.proofs.Common.{◌≡◌, ℕ, ◌+◌, ◌<◌, ◌≤◌, max, 
 use Rattle.std.specs.List.{AllByRecursion}
 use Rattle.std.proofs.ByRecursion.{All-weaker}
 use Rattle.std.proofs.lemmas.Bool.{cond_both, cases_Bool}
-use Rattle.names.specs.Names.{is_key, two_bytes, version_of}
+use Rattle.names.specs.Names.{is_byte_key, two_bytes, version_of}
 use Rattle.names.specs.Versions.{highest}
 use Rattle.names.specs.Orders.{before}
 use Rattle.names.proofs.ByteOrder.{keys-ordered}
@@ -35,7 +35,7 @@ version_or None = 0
 version_or (Some e) = version_of e.key
 
 abbrev Good : List Entry → Type 0
-Good es = AllByRecursion (λ e. is_key e.key ≡ true) es
+Good es = AllByRecursion (λ e. is_byte_key e.key ≡ true) es
 
 module _ (name : List ℕ) where
   newest-more : (e : Entry) (es : List Entry) → newest_of name (e ∷ es) ≡ cond (has_name name e) (or_else (newest_of name es) (Some e)) (newest_of name es)
@@ -52,22 +52,22 @@ module _ (name : List ℕ) where
       let h = newest-there P es a.1 in
       subst (Found Q) (sym (newest-more e es)) (cond_both (has_name name e) (or_else (newest_of name es) (Some e)) (newest_of name es) (Found Q) (λ named. either Q (newest_of name es) e h (a.0, named)) (λ _. h))
 
-  above-last : (e : Entry) → is_key e.key ≡ true → before (last_key name) e.key ≡ true → has_name name e ≡ false
+  above-last : (e : Entry) → is_byte_key e.key ≡ true → before (last_key name) e.key ≡ true → has_name name e ≡ false
   above-last e good p = let h = last-not-below name e good in grind (arith, cases_Bool (has_name name e))
 
   pub newest-in : (es : List Entry) → Sorted key_of before es → Good es → newest_of name es ≡ of_name name (last_up_to key_of before (last_key name) es)
   newest-in [] s g = refl
   newest-in (e ∷ es) s g =
       let top = last_key name in
-      let up = both (λ f. before e.key f.key ≡ true) (λ f. is_key f.key ≡ true) es s.0 g.1 in
+      let up = both (λ f. before e.key f.key ≡ true) (λ f. is_byte_key f.key ≡ true) es s.0 g.1 in
       cond_both (before top e.key) None (or_else (last_up_to key_of before top es) (Some e)) (λ v. newest_of name (e ∷ es) ≡ of_name name v)
       (λ p. newest-none (e ∷ es) (
         above-last e g.0 p,
-        All-weaker (λ f. (before e.key f.key ≡ true) × (is_key f.key ≡ true)) (λ f. has_name name f ≡ false) (λ f h. above-last f h.1 (keys-ordered.transitive top e.key f.key p h.0)) es up,
+        All-weaker (λ f. (before e.key f.key ≡ true) × (is_byte_key f.key ≡ true)) (λ f. has_name name f ≡ false) (λ f h. above-last f h.1 (keys-ordered.transitive top e.key f.key p h.0)) es up,
       ))
-      (λ _. step (last_up_to key_of before top es) (newest-in es s.1 g.1) (last-there (λ f. (before e.key f.key ≡ true) × (is_key f.key ≡ true)) top es up))
+      (λ _. step (last_up_to key_of before top es) (newest-in es s.1 g.1) (last-there (λ f. (before e.key f.key ≡ true) × (is_byte_key f.key ≡ true)) top es up))
     where
-      step : (v : Option Entry) → newest_of name es ≡ of_name name v → Found (λ f. ((before e.key f.key ≡ true) × (is_key f.key ≡ true)) × (before (last_key name) f.key ≡ false)) v
+      step : (v : Option Entry) → newest_of name es ≡ of_name name v → Found (λ f. ((before e.key f.key ≡ true) × (is_byte_key f.key ≡ true)) × (before (last_key name) f.key ≡ false)) v
           → newest_of name (e ∷ es) ≡ of_name name (or_else v (Some e))
       step None h f = newest-more e es ∙ ap (λ v. cond (has_name name e) (or_else v (Some e)) v) h
       step (Some y) h f =
@@ -80,10 +80,10 @@ module _ (name : List ℕ) where
   highest-in [] s g b = refl
   highest-in (e ∷ es) s g b =
       step (newest_of name es) (highest-in es s.1 g.1 b.1)
-      (newest-there (λ f. (before e.key f.key ≡ true) × ((is_key f.key ≡ true) × AreBytes f.key)) es (both _ _ es s.0 (both _ _ es g.1 b.1)))
+      (newest-there (λ f. (before e.key f.key ≡ true) × ((is_byte_key f.key ≡ true) × AreBytes f.key)) es (both _ _ es s.0 (both _ _ es g.1 b.1)))
       ∙ sym (ap version_or (newest-more e es))
     where
-      step : (v : Option Entry) → highest_version_of name es ≡ version_or v → Found (λ f. ((before e.key f.key ≡ true) × ((is_key f.key ≡ true) × AreBytes f.key)) × (has_name name f ≡ true)) v
+      step : (v : Option Entry) → highest_version_of name es ≡ version_or v → Found (λ f. ((before e.key f.key ≡ true) × ((is_byte_key f.key ≡ true) × AreBytes f.key)) × (has_name name f ≡ true)) v
           → cond (has_name name e) (max (version_of e.key) (highest_version_of name es)) (highest_version_of name es) ≡ version_or (cond (has_name name e) (or_else v (Some e)) v)
       step None h f = grind (arith, cases_Bool (has_name name e))
       step (Some y) h f =
@@ -119,4 +119,4 @@ module _ (P : ℕ) (name : List ℕ) (images : List (List ℕ)) (r : IsRegister 
   newest-stands = newest-in name (entries_of images) sorted r.keys
 
   pub highest-stands : highest_version_of name (entries_of images) ≡ version_or (newest_of name (entries_of images))
-  highest-stands = highest-in name (entries_of images) sorted r.keys (All-weaker (λ e. is_key e.key ≡ true) (λ e. AreBytes e.key) (λ e. key-bytes e.key) (entries_of images) r.keys)
+  highest-stands = highest-in name (entries_of images) sorted r.keys (All-weaker (λ e. is_byte_key e.key ≡ true) (λ e. AreBytes e.key) (λ e. key-bytes e.key) (entries_of images) r.keys)

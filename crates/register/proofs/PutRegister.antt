@@ -5,7 +5,7 @@ use Rattle.std.specs.List.{AllByRecursion}
 use Rattle.std.proofs.lemmas.List.{length-map}
 use Rattle.std.proofs.ByRecursion.{All-get_or}
 use Rattle.std.proofs.lemmas.Bool.{cond_both, cond-true, cond-false, ltb-true, ltb-false, cases_Bool}
-use Rattle.names.specs.Names.{is_key}
+use Rattle.names.specs.Names.{is_byte_key}
 use Rattle.names.specs.Orders.{before}
 use Rattle.names.proofs.ByteOrder.{keys-ordered}
 use Rattle.rows.specs.Lists.{insert, look_up}
@@ -29,7 +29,7 @@ use Rattle.register.proofs.PutHome.{one_leaf, two_leaves, put_in-home, put_write
 second-is : (q : ℕ) (es : List Entry) → 8 < length es → second key_of before q (drop 8 es) ≡ node (get_or es 8 no_entry).key q (drop 8 es) ∷ []
 second-is q es l = let d = drop-cons es 8 no_entry l in ap (second key_of before q) d ∙ ap (λ fs. node (get_or es 8 no_entry).key q fs ∷ []) (sym d)
 
-module _ (P : ℕ) (e : Entry) (images : List (List ℕ)) (h : Home P images e.key) (r : IsRegister P images) (fit : EntryFit e) (good : is_key e.key ≡ true) (fresh : look_up key_of before e.key (entries_of images) ≡ None) where
+module _ (P : ℕ) (e : Entry) (images : List (List ℕ)) (h : Home P images e.key) (r : IsRegister P images) (fit : EntryFit e) (good : is_byte_key e.key ≡ true) (fresh : look_up key_of before e.key (entries_of images) ≡ None) where
   abbrev leaf : Node (List ℕ) Entry
   leaf = h.leaf
 
@@ -59,7 +59,7 @@ module _ (P : ℕ) (e : Entry) (images : List (List ℕ)) (h : Home P images e.k
       let s = register-after P ws images t r held record {
         shape = shape;
         separators = separators;
-        keys = subst (AllByRecursion (λ e. is_key e.key ≡ true)) (sym same) (all_insert key_of before (λ e. is_key e.key ≡ true) e (entries_of images) good r.keys);
+        keys = subst (AllByRecursion (λ e. is_byte_key e.key ≡ true)) (sym same) (all_insert key_of before (λ e. is_byte_key e.key ≡ true) e (entries_of images) good r.keys);
         fit = subst (AllByRecursion EntryFit) (sym same) (all_insert key_of before EntryFit e (entries_of images) fit r.entries_fit);
       } in
       (s.0, s.1 ∙ same)
@@ -92,8 +92,8 @@ module _ (P : ℕ) (e : Entry) (images : List (List ℕ)) (h : Home P images e.k
       let t : h.left ++ (split key_of before q e leaf ++ h.right) ≡ two = ap (λ s. h.left ++ node leaf.sep leaf.page (take 8 es) ∷ (s ++ h.right)) (second-is q es (omega arith)) in
       let l = subst Law (cond-false _ _ _ a ∙ cond-true _ _ _ b ∙ ap Some t) law in
       let free = lowest_free (P - 1) 1 (pages was) (omega (arith, ltb-true _ _ b, length-map was (λ (n : Node (List ℕ) Entry). n.page))) in
-      let own = all-parts (λ n. AllByRecursion (λ e. is_key e.key ≡ true) n.entries) h.left (leaf ∷ h.right) (all-entries (λ e. is_key e.key ≡ true) was known.1.keys) in
-      let key : is_key new.sep ≡ true = All-get_or (λ e. is_key e.key ≡ true) es 8 no_entry (omega arith) (all_insert key_of before (λ e. is_key e.key ≡ true) e leaf.entries good own.1.0) in
+      let own = all-parts (λ n. AllByRecursion (λ e. is_byte_key e.key ≡ true) n.entries) h.left (leaf ∷ h.right) (all-entries (λ e. is_byte_key e.key ≡ true) was known.1.keys) in
+      let key : is_byte_key new.sep ≡ true = All-get_or (λ e. is_byte_key e.key ≡ true) es 8 no_entry (omega arith) (all_insert key_of before (λ e. is_byte_key e.key ≡ true) e leaf.entries good own.1.0) in
       finish (write leaf.page (leaf_page (take 8 es)) ∷ write q (leaf_page (drop 8 es)) ∷ write 0 (root_page (items_for two)) ∷ []) two
       (held-two images h.left h.right leaf known.0 h.apart-left h.apart-right h.root within q new.sep (take 8 es) (drop 8 es) free.not_in free.from (omega (arith, free.below, r.all))) l.0
       (separators-more h.left h.right leaf (node leaf.sep leaf.page (take 8 es)) new refl key known.1.separators) (same_entries two l.1)

@@ -2,7 +2,7 @@
 --     put-stands, take-stands      what a change writes leaves a register, with one entry more or one fewer
 --     fresh-stands                 the pages of a fresh volume are a register with no entries
 use Rattle.std.proofs.Common.{◌≡◌, ℕ, ◌≤◌, true, false, List, [], length, Some, None, ap}
-use Rattle.names.specs.Names.{is_key}
+use Rattle.names.specs.Names.{is_byte_key}
 use Rattle.names.specs.Orders.{before}
 use Rattle.rows.specs.Lists.{insert, remove, look_up}
 use Rattle.tree.specs.Tree.{entries}
@@ -18,7 +18,7 @@ use Rattle.register.proofs.PutRegister.{put-register}
 use Rattle.register.proofs.TakeRegister.{take-register}
 use Rattle.register.proofs.FreshPages.{fresh_tree, length-fresh, fresh-held, fresh-good}
 
-pub put-stands : (P : ℕ) (e : Entry) (images : List (List ℕ)) → IsRegister P images → EntryFit e → is_key e.key ≡ true
+pub put-stands : (P : ℕ) (e : Entry) (images : List (List ℕ)) → IsRegister P images → EntryFit e → is_byte_key e.key ≡ true
     → look_up key_of before e.key (entries_of images) ≡ None → is_full P images e.key ≡ false
     → IsRegister P (imaged (put_writes P e images) images) × (entries_of (imaged (put_writes P e images) images) ≡ insert key_of before e (entries_of images))
 put-stands P e images r fit good fresh room = put-register P e images (home-known P images e.key r fit.0) r fit good fresh room

@@ -3,7 +3,7 @@
 use Rattle.std.proofs.Common.{◌≡◌, ℕ, ◌<◌, Bool, true, false, cond, List, [], ◌∷◌, ◌++◌, length, Some, sym, ◌∙◌, subst, arith}
 use Rattle.std.specs.List.{AllByRecursion}
 use Rattle.std.proofs.lemmas.Bool.{cond_both, cond-true, cond-false}
-use Rattle.names.specs.Names.{is_key}
+use Rattle.names.specs.Names.{is_byte_key}
 use Rattle.names.specs.Orders.{before}
 use Rattle.names.proofs.ByteOrder.{keys-ordered}
 use Rattle.rows.specs.Lists.{remove, look_up}
@@ -51,7 +51,7 @@ module _ (P : ℕ) (k : List ℕ) (images : List (List ℕ)) (h : Home P images 
       let s = register-after P ws images t r held record {
         shape = shape;
         separators = separators;
-        keys = subst (AllByRecursion (λ e. is_key e.key ≡ true)) (sym same) (all_remove key_of before (λ e. is_key e.key ≡ true) k (entries_of images) r.keys);
+        keys = subst (AllByRecursion (λ e. is_byte_key e.key ≡ true)) (sym same) (all_remove key_of before (λ e. is_byte_key e.key ≡ true) k (entries_of images) r.keys);
         fit = subst (AllByRecursion EntryFit) (sym same) (all_remove key_of before EntryFit k (entries_of images) r.entries_fit);
       } in
       (s.0, s.1 ∙ same)

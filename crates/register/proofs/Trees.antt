@@ -9,7 +9,7 @@
 use Rattle.std.proofs.Common.{◌≡◌, ℕ, ◌<◌, ◌≤◌, true, List, [], ◌∷◌, ◌++◌, map, length, sym, refl, ap, ◌∙◌, subst, arith}
 use Rattle.std.specs.List.{AllByRecursion}
 use Rattle.std.proofs.lemmas.List.{length-map, map-append}
-use Rattle.names.specs.Names.{is_key}
+use Rattle.names.specs.Names.{is_byte_key}
 use Rattle.names.specs.Orders.{before}
 use Rattle.rows.proofs.Sorting.{all-parts}
 use Rattle.tree.specs.Tree.{Node, node, pages, entries, Shape}
@@ -45,7 +45,7 @@ pub record Held (images : List (List ℕ)) (t : Tree) : Type 0 where
 pub record Good (P : ℕ) (t : Tree) : Type 0 where
   pub shape : Shape key_of before zero_key P t
   pub separators : Separators (items_for t)
-  pub keys : AllByRecursion (λ e. is_key e.key ≡ true) (entries t)
+  pub keys : AllByRecursion (λ e. is_byte_key e.key ≡ true) (entries t)
   pub fit : AllByRecursion EntryFit (entries t)
 
 -- the entries of a node do not show in its item
@@ -71,7 +71,7 @@ separators-long : (is : List Item) → Separators is → AllByRecursion (λ i. l
 separators-long [] s = tt
 separators-long (i ∷ is) s = (ap length s.0 ∙ zero_key-long, rest is s.1)
   where
-    rest : (is : List Item) → AllByRecursion (λ i. is_key i.separator ≡ true) is → AllByRecursion (λ i. length i.separator ≡ 22) is
+    rest : (is : List Item) → AllByRecursion (λ i. is_byte_key i.separator ≡ true) is → AllByRecursion (λ i. length i.separator ≡ 22) is
     rest [] a = tt
     rest (i ∷ is) a = (key-long i.separator a.0, rest is a.1)
 
@@ -108,7 +108,7 @@ tree-register P images t least most all h g =
         root = h.root ∙ ap root_page (sym is);
         leaves = subst (AllByRecursion (OnPage images)) (sym e) h.leaves;
         separators = subst Separators (sym is) g.separators;
-        keys = subst (λ t. AllByRecursion (λ e. is_key e.key ≡ true) (entries t)) (sym e) g.keys;
+        keys = subst (λ t. AllByRecursion (λ e. is_byte_key e.key ≡ true) (entries t)) (sym e) g.keys;
         items_fit = subst (AllByRecursion ItemFit) (sym is) f;
         entries_fit = subst (λ t. AllByRecursion EntryFit (entries t)) (sym e) g.fit;
       },

@@ -8,7 +8,7 @@ use Rattle.std.proofs.ByRecursion.{All-weaker, All-map}
 use Rattle.std.proofs.lemmas.List.{length-map}
 use Rattle.std.proofs.lemmas.Bool.{both_ways, cases_Bool}
 use Rattle.std.proofs.lemmas.Bool.Decides.{nat_tests}
-use Rattle.names.specs.Names.{is_key}
+use Rattle.names.specs.Names.{is_byte_key}
 use Rattle.names.specs.Orders.{before}
 use Rattle.tree.specs.Tree.{pages, bound, Shape, Apart}
 use Rattle.pages.specs.Records.{item_of, entry_of, EntryFit}
@@ -94,7 +94,7 @@ module _ (first sectors P : ℕ) (images : List (List ℕ)) where
       root = r.root.form;
       leaves = All-map (λ n. page_at images n.page ≡ leaf_page n.entries) (node_of images) items (all-leaves (λ i. page_at images i.page ≡ leaf_page (leaf_of images i.page)) (λ i next q. q.form) r);
       separators = r.root.separators;
-      keys = all-entries (λ e. is_key e.key ≡ true) (λ k next e q. q.key) r;
+      keys = all-entries (λ e. is_byte_key e.key ≡ true) (λ k next e q. q.key) r;
       items_fit = items-fit P items most r.root.separators r.root.range;
       entries_fit = all-entries EntryFit (λ k next e q. (key-long e.key q.key, omega (arith, q.placed.ends), omega (arith, q.placed.length))) r;
     },
@@ -128,6 +128,6 @@ module _ (first sectors P : ℕ) (images : List (List ℕ)) where
           range = all-mapped (λ n. (1 ≤ n.page) × (n.page < P)) (node_of images) items k.shape.range;
         };
         leaves = leaves-from first sectors single images items k.shape.fine (all-mapped (λ n. page_at images n.page ≡ leaf_page n.entries) (node_of images) items k.leaves) (filled-from k)
-            (held (λ e. is_key e.key ≡ true) k.keys) (held (InPlace first sectors) kept.1);
+            (held (λ e. is_byte_key e.key ≡ true) k.keys) (held (InPlace first sectors) kept.1);
         apart = kept.2;
       }

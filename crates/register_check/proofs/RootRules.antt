@@ -9,7 +9,7 @@ use Rattle.std.proofs.ByRecursion.{Decides-by_and}
 use Rattle.std.proofs.lemmas.Bool.{and_from, and_parts, not-true, not_from_false, leb-true, le-leb, ltb-true, lt-ltb}
 use Rattle.std.proofs.lemmas.Bool.Decides.{Decides-eqb, Decides-and, Decides-like}
 use Rattle.std.proofs.lemmas.Slice.Eq.{slice_eq-Decides}
-use Rattle.names.specs.Names.{is_key}
+use Rattle.names.specs.Names.{is_byte_key}
 use Rattle.tree.specs.Tree.{has, Apart}
 use Rattle.pages.specs.declared.records.Item.{Item}
 use Rattle.register.specs.Images.{zero_key, root_page, pages_of}
@@ -41,8 +41,8 @@ apart-differ (p ∷ ps) a = and_from (not (has p ps)) (differ ps) (not_from_fals
 abbrev Begun : List Item → Type 0
 Begun items = (1 ≤ length items) × Separators items
 
-keys-decided : (items : List Item) → Decides (list_all (λ i. is_key i.separator) items) (AllByRecursion (λ i. is_key i.separator ≡ true) items)
-keys-decided items = Decides-by_and (λ i. is_key i.separator) (λ i. is_key i.separator ≡ true) (list_all (λ i. is_key i.separator)) (λ i. itself-decided (is_key i.separator)) refl (λ _ _. refl) items
+keys-decided : (items : List Item) → Decides (list_all (λ i. is_byte_key i.separator) items) (AllByRecursion (λ i. is_byte_key i.separator ≡ true) items)
+keys-decided items = Decides-by_and (λ i. is_byte_key i.separator) (λ i. is_byte_key i.separator ≡ true) (list_all (λ i. is_byte_key i.separator)) (λ i. itself-decided (is_byte_key i.separator)) refl (λ _ _. refl) items
 
 begun-parts : (items : List Item) → zeros_first items ≡ true → keys_behind items ≡ true → Begun items
 begun-parts [] z k = grind arith

@@ -6,7 +6,7 @@ use Rattle.std.proofs.Common.{◌≡◌, ℕ, ◌<◌, Bool, true, false, List, 
 use Rattle.std.specs.List.{AllByRecursion}
 use Rattle.std.proofs.ByRecursion.{All-weaker}
 use Rattle.std.proofs.lemmas.Bool.{and_from}
-use Rattle.names.specs.Names.{is_key}
+use Rattle.names.specs.Names.{is_byte_key}
 use Rattle.names.specs.Orders.{before}
 use Rattle.rows.specs.Lists.{Sorted}
 use Rattle.tree.specs.Tree.{Under, Fine}
@@ -34,7 +34,7 @@ module _ (images : List (List ℕ)) where
   rises-from items f = (rising-decided separator_of items).0 (rising-from items f)
 
 -- what is asked of each entry, put together
-all-right : (l : Limits) (es : List Entry) → AllByRecursion (λ e. is_key e.key ≡ true) es → AllByRecursion (λ e. before e.key l.separator ≡ false) es → AllByRecursion (λ e. Under key_of before l.next e.key) es → AllByRecursion (InPlace l.first l.sectors) es
+all-right : (l : Limits) (es : List Entry) → AllByRecursion (λ e. is_byte_key e.key ≡ true) es → AllByRecursion (λ e. before e.key l.separator ≡ false) es → AllByRecursion (λ e. Under key_of before l.next e.key) es → AllByRecursion (InPlace l.first l.sectors) es
     → AllByRecursion (EntryRight l) es
 all-right l [] k f b p = tt
 all-right l (e ∷ es) k f b p = (record { key = k.0; from = f.0; below = b.0; placed = p.0 }, all-right l es k.1 f.1 b.1 p.1)
@@ -74,7 +74,7 @@ module _ (first sectors : ℕ) (single : Bool) (images : List (List ℕ)) where
   abbrev LeavesHold : (Entry → Type 0) → List Item → Type 0
   LeavesHold P items = AllByRecursion (λ (i : Item). AllByRecursion P (leaf_of images i.page)) items
 
-  pub leaves-from : (items : List Item) → InTree images items → LeavesForm items → LeavesFilled items → LeavesHold (λ e. is_key e.key ≡ true) items → LeavesHold (InPlace first sectors) items
+  pub leaves-from : (items : List Item) → InTree images items → LeavesForm items → LeavesFilled items → LeavesHold (λ e. is_byte_key e.key ≡ true) items → LeavesHold (InPlace first sectors) items
       → LeavesRight first sectors single images items
   leaves-from [] f m n k p = tt
   leaves-from (i ∷ []) f m n k p = (

@@ -1,6 +1,6 @@
 -- When a leaf of a register is right.
 --     limits               what bounds a leaf's entries: its separator, that of the next item if there is one, and the sectors for files
---     EntryRight           an entry's key is good, not below the separator and below the next, and its extent is in place
+--     EntryRight           an entry's key is good with a last byte below 256, not below the separator and below the next, and its extent is in place
 --     LeafRight            the page is just what its entries make; only a single leaf is empty; keys rise; each entry is right
 --     under, entry_right, leaf_right   the tests
 --     next_separator       the first separator of items, if there is one
@@ -9,7 +9,7 @@
 use Rattle.std.specs.Prelude.{◌≡◌, ℕ, suc, ◌<◌, Bool, true, false, not, ◌&&◌, ◌||◌, List, [], ◌∷◌, length, drop, Some, None, Option, ◌==◌, nat_eq, slice_index_or}
 use Rattle.std.specs.Cmp.Lexicographic.{pointwise}
 use Rattle.std.specs.List.{list_all, AllByRecursion}
-use Rattle.names.specs.Names.{is_key}
+use Rattle.names.specs.Names.{is_byte_key}
 use Rattle.names.specs.Orders.{before}
 use Rattle.rows.specs.Lists.{Sorted}
 use Rattle.tree.specs.Tree.{Under}
@@ -24,7 +24,7 @@ abbrev pub limits : List ℕ → Option (List ℕ) → ℕ → ℕ → Limits
 limits separator next first sectors = record { separator = separator; next = next; first = first; sectors = sectors }
 
 pub record EntryRight (l : Limits) (e : Entry) : Type 0 where
-  pub key : is_key e.key ≡ true
+  pub key : is_byte_key e.key ≡ true
   pub from : before e.key l.separator ≡ false
   pub below : Under key_of before l.next e.key
   pub placed : InPlace l.first l.sectors e
@@ -40,7 +40,7 @@ under None k = true
 under (Some next) k = before k next
 
 abbrev pub entry_right : Limits → Entry → Bool
-entry_right l e = is_key e.key && not (before e.key l.separator) && under l.next e.key && in_place l.first l.sectors e
+entry_right l e = is_byte_key e.key && not (before e.key l.separator) && under l.next e.key && in_place l.first l.sectors e
 
 abbrev pub leaf_right : Limits → Bool → List ℕ → List Entry → Bool
 leaf_right l single page es = pointwise nat_eq page (leaf_page es) && (single || not (length es == 0)) && rising key_of es && list_all (entry_right l) es

@@ -1,16 +1,16 @@
 -- When the root of a register of P pages is right.
---     RootRight        the page is just what its items make; 1 to P - 1 items; the first separator is zeros, the others are keys; separators rise; the items' pages differ and are those of leaves
+--     RootRight        the page is just what its items make; 1 to P - 1 items; the first separator is zeros, the others are keys whose last byte is below 256; separators rise; the items' pages differ and are those of leaves
 --     separator_of     an item's separator
 --     differ           no number stands twice
 --     zeros_first      there are items, and the first separator is zeros
---     keys_behind      the separators behind the first are keys
+--     keys_behind      the separators behind the first are keys whose last byte is below 256
 --     leaf_page_of     an item's page is that of a leaf
 --     pages_right      the items' pages differ and are those of leaves
 --     root_right       the test
 use Rattle.std.specs.Prelude.{◌≡◌, ℕ, ◌-◌, ◌<◌, ◌≤◌, Bool, true, false, not, ◌&&◌, List, [], ◌∷◌, length, drop, nat_eq, nat_le, nat_lt}
 use Rattle.std.specs.Cmp.Lexicographic.{pointwise}
 use Rattle.std.specs.List.{list_all, AllByRecursion}
-use Rattle.names.specs.Names.{is_key}
+use Rattle.names.specs.Names.{is_byte_key}
 use Rattle.names.specs.Orders.{before}
 use Rattle.rows.specs.Lists.{Sorted}
 use Rattle.tree.specs.Tree.{has, Apart}
@@ -40,7 +40,7 @@ zeros_first [] = false
 zeros_first (i ∷ is) = pointwise nat_eq i.separator zero_key
 
 abbrev pub keys_behind : List Item → Bool
-keys_behind items = list_all (λ i. is_key i.separator) (drop 1 items)
+keys_behind items = list_all (λ i. is_byte_key i.separator) (drop 1 items)
 
 abbrev pub leaf_page_of : ℕ → Item → Bool
 leaf_page_of P i = nat_le 1 i.page && nat_lt i.page P

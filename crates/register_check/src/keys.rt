@@ -1,14 +1,14 @@
 // Whether bytes are a key, and whether the keys of records rise.
 ghost use Rattle.std.specs.Prelude.{◌≡◌};
-ghost use Rattle.names.specs.Names.{is_key};
+ghost use Rattle.names.specs.Names.{is_byte_key};
 ghost use Rattle.register_check.specs.Chains.{chained};
 
 use names::key::Key;
 use rows::keyed::Keyed;
 
-// Whether these bytes are a key.
+// Whether these bytes are a key. The last one is below 256, as every byte is.
 pub(crate) fn is_key(bytes: &[u8; 22]) -> bool
-    ensures { result ≡ is_key bytes.now }
+    ensures { result ≡ is_byte_key bytes.now }
 {
     Key::from_bytes(bytes).is_some()
 }

@@ -21,5 +21,5 @@ returns g c =
     elim c.else-seat-ge15.branch [ else-seat-ge15-via-then-seat-ge15+else-seat-most_items w ↦ grind (arith, nat_tests) | else-seat-ge15-via-else-seat-ge15 w ↦ grind (arith, nat_tests) ] in
     let wrote = c.put_at_seat.ensures in
     let after = ap (map g.P.Paged.image) wrote ∙ map-wrote g.P.Paged.image g.P.Paged.written g.P.Paged.holds (put_writes P e images) old in
-    let stands = put-stands P e images c.requires.register (key-long k c.args.key.now.good, omega arith, omega arith) c.args.key.now.good c.requires.fresh room in
+    let stands = put-stands P e images c.requires.register (key-long k c.args.key.now.stored, omega arith, omega arith) c.args.key.now.stored c.requires.fresh room in
     (room, wrote, subst (IsRegister P) (sym after) stands.0, ap entries_of after ∙ stands.1)
