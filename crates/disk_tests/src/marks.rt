@@ -62,7 +62,7 @@ fn above_a_window_the_disk_below_is_as_before(rt: HostRuntime) {
 }
 
 #[test]
-fn a_spoiled_sector_is_cut_as_any_other(rt: HostRuntime) {
+fn a_spoiled_sector_is_cut_and_marked_as_any_other(rt: HostRuntime) {
     marking(
         &rt,
         0,
@@ -138,7 +138,7 @@ fn a_chosen_start_and_a_chosen_read_lose_no_sector(rt: HostRuntime) {
 }
 
 #[test]
-fn refused_calls_do_not_count(rt: HostRuntime) {
+fn refused_calls_do_not_count_with_marks(rt: HostRuntime) {
     marking(
         &rt,
         1,
