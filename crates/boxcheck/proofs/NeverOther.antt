@@ -1,9 +1,7 @@
--- What a renewed sheet can be told to be, and the copies as a marking disk shows them.
+-- What a renewed sheet can be told to be, and the copies as a failing disk shows them.
 use Rattle.std.proofs.Common.{◌≡◌, ℕ, Bool, true, false, List, Ok, subst, ⊎_elim, arith, lit≤}
 use Rattle.disk.specs.Sectors.{DiskState}
-use Rattle.marking.specs.Phases.{seen}
-use Rattle.marking.specs.declared.phase.Phase.{Phase}
-use Rattle.marking.specs.declared.phase.Phase.TheVariants.{Before}
+use Rattle.failing.specs.FailingSound.{cut_off}
 use Rattle.sheet.specs.Twins.{Both, Renewed, Leaves}
 use Rattle.sheet.proofs.TwinCuts.{both-doubled}
 use Rattle.sheet.specs.declared.twins.Renewal.{Renewal}
@@ -24,6 +22,5 @@ never-other back old new Other (Cut s) tells renewed is = ⊎_elim tells.0 tells
 pub both-written : (old was back : List ℕ) (how : Renewal) (d e : DiskState) → how ≡ Written → Leaves 2 4 old d was (Ok how) e back → Both 2 4 old e
 both-written old was back how d e is left = both-doubled 2 4 (lit≤ tt) old d e (subst (λ (h : Renewal). Leaves 2 4 old d was (Ok h) e back) is left).0
 
--- Before its power fails a marking disk is seen as the disk below.
-pub both-seen : (old : List ℕ) (calls : ℕ) (phase : Phase) (d : DiskState) → phase ≡ Before calls → Both 2 4 old d → Both 2 4 old (seen phase d)
-both-seen old calls phase d is both = rw is both
+pub both-seen : (old : List ℕ) (off : Bool) (d : DiskState) → Both 2 4 old d → Both 2 4 old (cut_off off d)
+both-seen old off d both = (record { exists = both.0.exists; is = both.0.is }, record { exists = both.1.exists; is = both.1.is })

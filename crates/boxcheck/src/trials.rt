@@ -2,10 +2,10 @@
 ghost use Rattle.std.specs.Prelude.{◌≡◌, IfOk};
 ghost use Rattle.boxcheck.specs.Trials.{Tells, OldOrNew, Carried, cut_of};
 
-use disk::disks::Disk;
+use disk::disks::Spoilable;
+use failing::failing::Failing;
 use failing::manner::Manner;
 use image::Image;
-use marking::marking::Marking;
 use refusal::Refusal;
 use sheet::survey::survey;
 use sheet::twins::{Renewal, fetch, renew};
@@ -66,8 +66,8 @@ fn cut_of(renewal: Renewal) -> Option<u32>
     }
 }
 
-// The trial on any disk: the old sheet on both copies, then the new one on the disk whose power fails.
-fn on_disk<D: Disk>(
+// The trial on any disk that can be spoiled: the old sheet on both copies, then the new one on the failing disk.
+fn on_disk<D: Spoilable>(
     part: &mut D,
     old: &[u8; 512],
     new: &[u8; 512],
@@ -82,7 +82,7 @@ fn on_disk<D: Disk>(
         Renewal::Written => {}
         Renewal::Cut(sector) => return Err(Refusal::PowerOff(sector)),
     }
-    let mut disk = Marking::new(part, calls, manner);
+    let mut disk = Failing::new(part, calls, manner);
     let renewal = renew(&mut disk, FIRST, SECOND, new, &mut back)?;
     let came = which(&back, old, new);
     let source = fetch(&mut disk, FIRST, SECOND, &mut back)?;
