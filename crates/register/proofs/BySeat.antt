@@ -2,8 +2,8 @@
 --     home-is                  the page of a key's leaf
 --     put-by-seat, take-by-seat    the writes of a put in and of a take out
 --     full-by-seat             when the register is full for a key
---     put-leaf, put-halves     the pages after the writes of a put in
---     take-leaf, take-root     the pages after the writes of a take out
+--     put-leaf                 the pages after a leaf is written
+--     take-root                the pages after a leaf is written and then the root
 use Rattle.std.proofs.Common.{◌≡◌, ℕ, ◌-◌, cond, not, ◌&&◌, eqb, ltb, List, [], ◌∷◌, map, length, get_or, sym, ap, ◌∙◌}
 use Rattle.names.specs.Orders.{before}
 use Rattle.rows.specs.Lists.{up_to, put_at, without}

@@ -1,5 +1,5 @@
 -- The keys of one name, in the order of keys.
---     key-long, key-version    a key has 22 bytes, and its version is at most 9,999
+--     key-version              the version of a key is at most 9,999
 --     named-is                 the entries of a name are those whose key begins with it
 --     last-not-below           no key of a name is above the name with the version 9,999
 --     named-between            a key between one of the name and that one is of the name
