@@ -77,8 +77,6 @@ pub fn write_leader<D: Disk>(
     };
     let mut work = [0u8; 512];
     leader.encode(&mut work);
-    match disk.write(sector, &work) {
-        Ok(()) => Ok(()),
-        Err(fault) => Err(fault.refusal()),
-    }
+    disk.write(sector, &work)?;
+    Ok(())
 }

@@ -4,6 +4,7 @@
 --     done-none                no write is done at the start
 --     done-more                a list's first writes are done, and so is the next one
 --     length-run, nth-run      how many writes a run has, and which stands at a place
+--     run-more                 one write of a run more is done
 --     run-stopped, run-done    what a run's writes come to
 use Rattle.std.proofs.Common.{◌≡◌, ℕ, zero, suc, ◌+◌, ◌<◌, ◌≤◌, List, [], ◌∷◌, ◌++◌, length, get_or, take, set, Ok, Err, sym, refl, ap, ◌∙◌, subst, ⊎_elim, add-zero, arith}
 use Rattle.std.proofs.lemmas.List.{length-set, take_more, length-take, get_or-take, take_all}
@@ -66,8 +67,17 @@ nth-run first (block ∷ blocks) zero h = (sym (add-zero first), refl)
 nth-run first (block ∷ blocks) (suc k) h = let rest = nth-run (first + 1) blocks k (omega arith) in (omega (arith, rest.0), rest.1)
 
 -- What a write did, under other names for its sector and its bytes.
-pub write-as : (s s' : ℕ) (b b' : List ℕ) (d e : DiskState) (r : Answer) → s ≡ s' → b ≡ b' → Writes s b d r e → Writes s' b' d r e
+write-as : (s s' : ℕ) (b b' : List ℕ) (d e : DiskState) (r : Answer) → s ≡ s' → b ≡ b' → Writes s b d r e → Writes s' b' d r e
 write-as s s' b b' d e r p q h = subst (λ (t : List ℕ). Writes s' t d r e) q (subst (λ (t : ℕ). Writes t b d r e) p h)
+
+pub run-more : (first : ℕ) (blocks : List (List ℕ)) (i : ℕ) (d m e : DiskState)
+    → i < length blocks
+    → Done (take i (run_of first blocks)) d m
+    → Writes (first + i) (get_or blocks i []) m (Ok tt) e
+    → Done (take (i + 1) (run_of first blocks)) d e
+run-more first blocks i d m e within done wrote =
+    let is = nth-run first blocks i within in
+    done-more (run_of first blocks) i d m e (omega (arith, length-run first blocks)) done (write-as _ _ _ _ m e (Ok tt) (sym is.0) (sym is.1) wrote)
 
 -- The i-th write of a run that lies on the disk was refused, the others before it done.
 pub run-stopped : (first : ℕ) (blocks : List (List ℕ)) (i : ℕ) (d m e : DiskState) (x : Fault)

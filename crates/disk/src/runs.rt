@@ -12,16 +12,11 @@ pub fn write_run<D: Disk>(disk: &mut D, first: u32, blocks: &[[u8; 512]]) -> Res
     ensures survives { (keeps : List Sector → Bool) → Survives keeps (run_of first blocks.now) → T (keeps (D.state disk.old).sectors) → T (keeps (D.state disk.new).sectors) }
     ensures same { D.layers disk.new ≡ D.layers disk.old }
 {
-    let count = (*disk).count() as usize;
-    let many = blocks.len();
-    if many > count {
+    if first as usize + blocks.len() > (*disk).count() as usize {
         return Err(Fault::NoSuchSector);
     }
-    if first as usize > count - many {
-        return Err(Fault::NoSuchSector);
-    }
-    for i in 0..many {
-        disk.write(first + i as u32, &blocks[i])?;
+    for (i, block) in blocks.iter().enumerate() {
+        disk.write(first + i as u32, block)?;
     }
     Ok(())
 }

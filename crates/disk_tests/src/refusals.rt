@@ -49,7 +49,6 @@ fn numbers_places_and_words(rt: HostRuntime) {
 
 // Checks which refusal a fault is.
 fn is(rt: &impl Abort, fault: Fault, refusal: Refusal) {
-    assert_eq!(rt; fault.refusal(), refusal);
     assert_eq!(rt; Refusal::from(fault), refusal);
 }
 

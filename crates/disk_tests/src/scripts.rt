@@ -3,6 +3,7 @@ use crate::bytes::{count_tail, is_all, put_tail};
 use disk::disks::{Disk, Spoilable};
 use disk::faults::Fault;
 use disk::runs::write_run;
+use refusal::Refusal;
 use std::fmt::Debug;
 use std::process::Abort;
 
@@ -37,7 +38,7 @@ fn answer_of(res: Result<(), Fault>) -> Answer {
     match res {
         Ok(()) => Answer::Done,
         Err(fault) => {
-            let refusal = fault.refusal();
+            let refusal = Refusal::from(fault);
             Answer::Refused(refusal.number(), refusal.place())
         }
     }

@@ -1,2 +1,3 @@
 pub mod OneSector
 pub mod Stored
+pub mod Counted

@@ -19,7 +19,7 @@ pub struct Image<'a> {
     power: bool,
 }
 
-// A sector's bytes are 512, each below 256.
+// A sector's bytes are 512, each below 256: the check knows it of an array that is passed by value, and not of one that a slice was copied into.
 fn told(bytes: [u8; 512])
     ensures { Bytes bytes }
 {}
@@ -61,9 +61,9 @@ impl Disk for Image<'_> {
 
     ghost layers = { layers_of };
 
+    #[tactic(auto, using(crate::proofs::Counted::counted))]
     fn count(&self) -> u32 {
-        let whole = self.bytes.len() / 513;
-        if whole < 65536 { whole as u32 } else { 65536 }
+        (self.bytes.len() / 513).min(65536) as u32
     }
 
     fn start(&mut self) -> Result<(), Fault>
@@ -75,6 +75,7 @@ impl Disk for Image<'_> {
         Ok(())
     }
 
+    #[tactic(auto, using(crate::proofs::Counted::counted))]
     fn read(&mut self, sector: u32, buffer: &mut [u8; 512]) -> Result<(), Fault>
         ensures rule { Reads sector (state_of self.old) buffer.old result (state_of self.new) buffer.new }
         ensures same { layers_of self.new ≡ layers_of self.old }
@@ -94,6 +95,7 @@ impl Disk for Image<'_> {
         Ok(())
     }
 
+    #[tactic(auto, using(crate::proofs::Counted::counted))]
     fn write(&mut self, sector: u32, bytes: &[u8; 512]) -> Result<(), Fault>
         ensures rule { Writes sector bytes.now (state_of self.old) result (state_of self.new) }
         ensures same { layers_of self.new ≡ layers_of self.old }
@@ -105,7 +107,6 @@ impl Disk for Image<'_> {
         if sector >= (*self).count() {
             return Err(Fault::NoSuchSector);
         }
-        told(*bytes);
         let at = sector as usize * 513;
         self.bytes[at] = 0;
         self.bytes[at + 1..at + 513].copy_from_slice(bytes);
@@ -114,6 +115,7 @@ impl Disk for Image<'_> {
 }
 
 impl Spoilable for Image<'_> {
+    #[tactic(auto, using(crate::proofs::Counted::counted))]
     fn spoil(&mut self, sector: u32) -> Result<(), Fault>
         ensures rule { Spoils sector (state_of self.old) result (state_of self.new) }
         ensures same { layers_of self.new ≡ layers_of self.old }

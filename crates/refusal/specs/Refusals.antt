@@ -2,7 +2,8 @@
 --     number_of     the number of a refusal, 1 to 17
 --     place_of      the sector named by 9, 10 and 11, the page named by 13, and none for the others
 --     words_of      the words of a report, as ASCII codes
-use Rattle.std.specs.Prelude.{ℕ, List, Some, None, codes, Option}
+--     text_of       a refusal as it is printed: the number, a space and the words
+use Rattle.std.specs.Prelude.{ℕ, List, ◌++◌, Some, None, codes, decimal, Option}
 use Rattle.refusal.specs.declared.Refusal.{Refusal}
 use Rattle.refusal.specs.declared.Refusal.TheVariants.{VolumeDown, BadName, TooLong, VersionAbove, RegisterFull, NoRun, NoSuchFile, BufferShort, PowerOff, Unreadable, LeaderDiffers, NoVolume, RegisterBroken, NumbersUsedUp, BadNumbers, NoSuchSector, VolumeUp}
 
@@ -62,3 +63,6 @@ words_of NumbersUsedUp = codes "numbers used up"
 words_of BadNumbers = codes "bad numbers"
 words_of NoSuchSector = codes "no such sector"
 words_of VolumeUp = codes "volume up"
+
+abbrev pub text_of : Refusal → List ℕ
+text_of refusal = decimal (number_of refusal) ++ codes " " ++ words_of refusal

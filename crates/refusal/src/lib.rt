@@ -1,8 +1,11 @@
 // The refusals of the whole product.
 #![tactic(auto)]
 
-ghost use Rattle.std.specs.Prelude.{◌≡◌};
-ghost use Rattle.refusal.specs.Refusals.{number_of, place_of, words_of};
+ghost use Rattle.std.specs.Prelude.{◌≡◌, Some};
+ghost use Rattle.refusal.specs.Refusals.{number_of, place_of, words_of, text_of};
+
+use std::error::Error;
+use std::fmt;
 
 /// Why a call was turned down. `docs/CALLS.md` lists every case.
 #[derive(Clone, Copy, PartialEq, Eq, Debug)]
@@ -57,10 +60,10 @@ impl Refusal {
         ensures { result ≡ place_of self.now }
     {
         match self {
-            Refusal::PowerOff(sector) => Some(*sector),
-            Refusal::Unreadable(sector) => Some(*sector),
-            Refusal::LeaderDiffers(sector) => Some(*sector),
-            Refusal::RegisterBroken(page) => Some(*page),
+            Refusal::PowerOff(place)
+            | Refusal::Unreadable(place)
+            | Refusal::LeaderDiffers(place)
+            | Refusal::RegisterBroken(place) => Some(*place),
             _ => None,
         }
     }
@@ -90,3 +93,16 @@ impl Refusal {
         }
     }
 }
+
+/// Writes the number, a space and the words.
+impl fmt::Display for Refusal {
+    ghost output = { λ refusal. Some (text_of refusal) };
+
+    fn fmt<W: fmt::Write>(&self, f: &mut fmt::Formatter<W>) -> fmt::Result {
+        let number = self.number();
+        let words = self.words();
+        write!(f, "{number} {words}")
+    }
+}
+
+impl Error for Refusal {}

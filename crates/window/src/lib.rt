@@ -3,7 +3,7 @@
 
 ghost use Rattle.std.specs.Prelude.{◌≡◌};
 ghost use Rattle.disk.specs.Rules.{Starts, Reads, Writes, Spoils};
-ghost use Rattle.window.specs.Windows.{Placed, retold};
+ghost use Rattle.window.specs.Windows.{Placed};
 ghost use Rattle.window.specs.WindowSound.{window-sound};
 ghost use Rattle.window.specs.OfWindow.{below_of, first_of, length_of, window_state, window_layers, AskedRead, AskedWrite, AskedSpoil};
 
@@ -16,18 +16,6 @@ pub struct Window<D> {
     below: D,
     first: u32,
     length: u32,
-}
-
-// The answer to a call on the window's own sector where the disk below gave `answer`.
-fn retell(sector: u32, answer: Result<(), Fault>) -> Result<(), Fault>
-    ensures { result ≡ retold sector answer }
-{
-    match answer {
-        Ok(()) => Ok(()),
-        Err(Fault::PowerOff(_)) => Err(Fault::PowerOff(sector)),
-        Err(Fault::Unreadable(_)) => Err(Fault::Unreadable(sector)),
-        Err(Fault::NoSuchSector) => Err(Fault::NoSuchSector),
-    }
 }
 
 impl<D: Disk> Window<D> {
@@ -48,11 +36,7 @@ impl<D: Disk> Window<D> {
     pub fn into_below(self) -> D
         ensures { result ≡ below_of self }
     {
-        let Window {
-            below: disk,
-            first: _,
-            length: _,
-        } = self;
+        let Window { below: disk, .. } = self;
         disk
     }
 
@@ -76,14 +60,10 @@ impl<D: Disk> Disk for Window<D> {
     ghost layers = { window_layers D.Disk.layers };
 
     fn count(&self) -> u32 {
-        let below = self.below.count();
-        if self.first >= below {
-            0
-        } else if self.length < below - self.first {
-            self.length
-        } else {
-            below - self.first
-        }
+        self.below
+            .count()
+            .saturating_sub(self.first)
+            .min(self.length)
     }
 
     fn start(&mut self) -> Result<(), Fault>
@@ -100,8 +80,9 @@ impl<D: Disk> Disk for Window<D> {
         ensures below { AskedRead D.Disk.state sector self.old buffer.old result self.new buffer.new }
     {
         let at = self.place(sector);
-        let answer = self.below.read(at, buffer);
-        retell(sector, answer)
+        self.below
+            .read(at, buffer)
+            .map_err(|fault| fault.at(sector))
     }
 
     fn write(&mut self, sector: u32, bytes: &[u8; 512]) -> Result<(), Fault>
@@ -110,8 +91,9 @@ impl<D: Disk> Disk for Window<D> {
         ensures below { AskedWrite D.Disk.state sector bytes.now self.old result self.new }
     {
         let at = self.place(sector);
-        let answer = self.below.write(at, bytes);
-        retell(sector, answer)
+        self.below
+            .write(at, bytes)
+            .map_err(|fault| fault.at(sector))
     }
 }
 
@@ -122,7 +104,6 @@ impl<D: Spoilable> Spoilable for Window<D> {
         ensures below { AskedSpoil D.Disk.state sector self.old result self.new }
     {
         let at = self.place(sector);
-        let answer = self.below.spoil(at);
-        retell(sector, answer)
+        self.below.spoil(at).map_err(|fault| fault.at(sector))
     }
 }

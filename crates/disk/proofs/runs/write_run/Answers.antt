@@ -1,57 +1,28 @@
-use Rattle.std.proofs.Common.{◌≡◌, ◌+◌, ◌<◌, ◌≤◌, length, Ok, Err, sym, refl, ◌∙◌, subst, arith}
+use Rattle.std.proofs.Common.{◌≡◌, length, Ok, Err, refl, ◌∙◌, arith}
 use Rattle.std.proofs.lemmas.Result.{err_from_is_err_and}
-use Rattle.disk.specs.Faults.{Answer}
-use Rattle.disk.specs.Sectors.{count}
-use Rattle.disk.specs.WriteLists.{run_of, WritesRun}
-use Rattle.disk.proofs.DoneWrites.{done-none, done-more, nth-run, length-run, write-as, run-stopped, run-done}
+use Rattle.disk.specs.WriteLists.{run_of}
+use Rattle.disk.proofs.DoneWrites.{done-none, run-more, run-stopped, run-done}
 use Rattle.disk.proofs.Survival.{run-survives}
 use Rattle.disk.proofs.runs.write_run.Goals as goal
 
 pub loop-i-init : goal.loop-i-init
-loop-i-init g c = (done-none (run_of c.args.first c.args.blocks.now) (g.D.Disk.state c.args.disk.now), refl)
+loop-i-init g c = (done-none (run_of c.args.first c.args.blocks.now) _, refl)
 
 pub loop-i-preserved : goal.loop-i-preserved
-loop-i-preserved g c =
-    let st = g.D.Disk.state in
-    let first = c.args.first in
-    let blocks = c.args.blocks.now in
-    let i = c.loop-i.i in
-    let ws = run_of first blocks in
-    let within : i < length blocks = omega arith in
-    let is = nth-run first blocks i within in
-    let m = st c.loop-i.disk in
-    let e = st c.write.new.self in
-    let wrote = c.in_ok-write.ensures in (
-      done-more ws i (st c.args.disk.now) m e (omega (arith, length-run first blocks)) c.loop-i.invariant.0 (write-as _ _ _ _ m e (Ok tt) (sym is.0) (sym is.1) wrote.rule),
-      wrote.same ∙ c.loop-i.invariant.1,
-    )
+loop-i-preserved g c = (
+  run-more _ _ _ _ _ _ (omega arith) c.loop-i.invariant.0 c.in_ok-write.ensures.rule,
+  c.in_ok-write.ensures.same ∙ c.loop-i.invariant.1,
+)
 
 pub returns-in_err-write : goal.returns-in_err-write
 returns-in_err-write g c =
-    let st = g.D.Disk.state in
-    let first = c.args.first in
-    let blocks = c.args.blocks.now in
-    let d = st c.args.disk.now in
-    let e = st c.write.new.self in
-    let exit = err_from_is_err_and c.from_residual.result c.from_residual.ensures.1 in
     let wrote = c.in_err-write.ensures in
-    let fits : first + length blocks ≤ count d = omega arith in
-    let rule = run-stopped first blocks c.loop-i.i d (st c.loop-i.disk) e c.in_err-write.field-0.0 fits (omega arith) c.loop-i.invariant.0 wrote.rule in
-    let told : c.from_residual.result ≡ Err c.in_err-write.field-0.0 = cc in
-    record {
-      rule = subst (λ (r : Answer). WritesRun first blocks d r e) (sym told) rule;
-      survives = run-survives first blocks d (Err c.in_err-write.field-0.0) e rule;
-      same = wrote.same ∙ c.loop-i.invariant.1;
-    }
+    let rule = run-stopped _ _ _ _ _ _ _ (omega arith) (omega arith) c.loop-i.invariant.0 wrote.rule in
+    let exit = err_from_is_err_and c.from_residual.result c.from_residual.ensures.1 in
+    rw (exit.1, exit.2) (record { rule = rule; survives = run-survives _ _ (g.D.Disk.state c.args.disk.now) (Err c.in_err-write.field-0.0) (g.D.Disk.state c.write.new.self) rule; same = wrote.same ∙ c.loop-i.invariant.1 })
 
 pub returns : goal.returns
 returns g c =
-    let st = g.D.Disk.state in
-    let first = c.args.first in
-    let blocks = c.args.blocks.now in
-    let d = st c.args.disk.now in
-    let e = st c.loop-i.disk in
-    let fits : first + length blocks ≤ count d = omega arith in
-    let all : c.loop-i.i ≡ length blocks = omega arith in
-    let rule = run-done first blocks d e fits (rw all at c.loop-i.invariant.0) in
-    record { rule = rule; survives = run-survives first blocks d (Ok tt) e rule; same = c.loop-i.invariant.1 }
+    let all : c.loop-i.i ≡ length c.args.blocks.now = omega arith in
+    let rule = run-done _ _ _ _ (omega arith) (rw all at c.loop-i.invariant.0) in
+    record { rule = rule; survives = run-survives _ _ (g.D.Disk.state c.args.disk.now) (Ok tt) (g.D.Disk.state c.loop-i.disk) rule; same = c.loop-i.invariant.1 }

@@ -5,9 +5,6 @@ use Rattle.image.specs.ImageSound.{length-sectors, at-sector}
 use Rattle.image.proofs.Stored.{byte-same, marked-zero, marked-other, stored-is}
 use Rattle.image.proofs.ImageDisk.read.Goals as goal
 
-pub bounds-self-at : goal.bounds-self-at
-bounds-self-at c = omega (arith, length-sectors c.args.self.now.bytes.now)
-
 pub returns-then-self-at-ne0 : goal.returns-then-self-at-ne0
 returns-then-self-at-ne0 c =
     let b = c.args.self.now.bytes.now in
@@ -21,9 +18,6 @@ returns-then-self-at-ne0 c =
       same = refl;
       bytes = refl;
     }
-
-pub fill-requires : goal.fill-requires
-fill-requires c = omega (arith, length-sectors c.args.self.now.bytes.now)
 
 pub returns : goal.returns
 returns c =

@@ -5,9 +5,6 @@ use Rattle.image.proofs.OneSector.{one-changed, same-layers}
 use Rattle.image.proofs.Stored.{spoiled-beside, spoiled-is}
 use Rattle.image.proofs.ImageSpoilable.spoil.Goals as goal
 
-pub bounds-self-at : goal.bounds-self-at
-bounds-self-at c = omega (arith, length-sectors c.args.self.now.bytes.now)
-
 pub returns : goal.returns
 returns c =
     let b = c.args.self.now.bytes.now in

@@ -1,10 +1,12 @@
-use Rattle.std.proofs.Common.{rules}
+use Rattle.std.proofs.Common.{◌≡◌, arith}
+use Rattle.std.proofs.lemmas.Grind.{common_steps}
+use Rattle.window.specs.Windows.{retold}
 use Rattle.window.proofs.WindowCalls.{window-reads}
 use Rattle.window.proofs.WindowDisk.read.Goals as goal
 
-pub returns : goal.returns
-returns g c = record {
-  rule = search (rules, window-reads);
-  same = search rules;
-  below = record { at = c.place-at.result; answer = c.read-answer.result; placed = c.place-at.ensures; does = search rules; told = c.retell.ensures };
-}
+pub returns-clause-rule : goal.returns-clause-rule
+returns-clause-rule g c =
+    let told : c.map_err.result ≡ retold c.args.sector c.read.result = grind (arith, common_steps) in
+    let at = c.place-at.ensures in
+    let done = c.read.ensures.rule in
+    search (window-reads)

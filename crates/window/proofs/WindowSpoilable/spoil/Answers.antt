@@ -1,10 +1,12 @@
-use Rattle.std.proofs.Common.{rules}
+use Rattle.std.proofs.Common.{◌≡◌, arith}
+use Rattle.std.proofs.lemmas.Grind.{common_steps}
+use Rattle.window.specs.Windows.{retold}
 use Rattle.window.proofs.WindowCalls.{window-spoils}
 use Rattle.window.proofs.WindowSpoilable.spoil.Goals as goal
 
-pub returns : goal.returns
-returns g c = record {
-  rule = search (rules, window-spoils);
-  same = search rules;
-  below = record { at = c.place-at.result; answer = c.spoil-answer.result; placed = c.place-at.ensures; does = search rules; told = c.retell.ensures };
-}
+pub returns-clause-rule : goal.returns-clause-rule
+returns-clause-rule g c =
+    let told : c.map_err.result ≡ retold c.args.sector c.spoil.result = grind (arith, common_steps) in
+    let at = c.place-at.ensures in
+    let done = c.spoil.ensures.rule in
+    search (window-spoils)
