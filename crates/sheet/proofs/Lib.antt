@@ -3,5 +3,4 @@ pub mod TwinReads
 pub mod Standing
 pub mod TwinCuts
 pub mod Renewing
-pub mod TextLengths
 pub mod Surveying

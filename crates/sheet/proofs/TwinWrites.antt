@@ -3,7 +3,7 @@
 --     second-answers       the first copy is written, and the second write answers
 --     restarted            the disk was started after a cut
 --     restart-refused      that start was refused
-use Rattle.std.proofs.Common.{◌≡◌, ℕ, ◌<◌, false, List, length, set, Ok, Err, sym, ap, ◌∙◌, subst, arith}
+use Rattle.std.proofs.Common.{◌≡◌, ℕ, ◌<◌, false, List, length, set, Some, Ok, Err, sym, ap, ◌∙◌, subst, arith}
 use Rattle.std.proofs.lemmas.List.{length-set}
 use Rattle.disk.specs.Sectors.{Sector, holds, DiskState, count}
 use Rattle.disk.specs.Faults.{Answer}
@@ -11,7 +11,6 @@ use Rattle.disk.specs.Rules.{Cut, Starts, Writes, WriteOff, write-was-off, write
 use Rattle.disk.specs.declared.faults.Fault.{Fault}
 use Rattle.disk.specs.declared.faults.Fault.TheVariants.{PowerOff, Unreadable, NoSuchSector}
 use Rattle.sheet.specs.Twins.{CutIn, no-power, in-first, in-second, no-first, no-second, WritesBoth, Rewrites}
-use Rattle.sheet.specs.declared.twins.Renewal.TheVariants as renewal
 
 module _ (first second : ℕ) (new : List ℕ) where
   first-off : (d e : DiskState) (p : ℕ) → p ≡ first → WriteOff first new d e → (e.power ≡ false) × CutIn first second new d p e.sectors
@@ -55,7 +54,7 @@ module _ (first second : ℕ) (new : List ℕ) where
         let there = (subst (λ (y : Fault). WritesBoth first second new d (Err y) m) is cut).1 in
         subst (λ (l : List Sector). CutIn first second new d s l) (sym same) there
 
-    pub restarted : Starts m (Ok tt) e → Rewrites first second new d (Ok (renewal.Cut s)) e
+    pub restarted : Starts m (Ok tt) e → Rewrites first second new d (Ok (Some s)) e
     restarted h = (h.0, cut-there h.1)
 
     pub restart-refused : (y : Fault) → Starts m (Err y) e → Rewrites first second new d (Err y) e

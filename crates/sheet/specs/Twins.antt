@@ -14,7 +14,7 @@
 --     Leaves           what a renewal leaves of the disk and of the caller's bytes, by its answer
 --     Renewed          what a renewal tells whoever had an old sheet on both copies
 --     Renews           if both copies, two apart, held an old sheet: the old or the new one was read back, or 9; and one of them stands
-use Rattle.std.specs.Prelude.{◌≡◌, ℕ, ◌+◌, ◌<◌, ◌≤◌, true, false, ◌⊎◌, List, Ok, Err, Result, slice_set}
+use Rattle.std.specs.Prelude.{◌≡◌, ℕ, ◌+◌, ◌<◌, ◌≤◌, true, false, ◌⊎◌, List, Some, None, Ok, Err, Option, Result, slice_set}
 use Rattle.disk.specs.Sectors.{Sector, DiskState, unreadable, holds, count, At}
 use Rattle.disk.specs.Faults.{Answer, refusal_of}
 use Rattle.disk.specs.Rules.{Cut, ReadOff}
@@ -23,8 +23,6 @@ use Rattle.refusal.specs.declared.Refusal.{Refusal}
 use Rattle.refusal.specs.declared.Refusal.TheVariants as refusal
 use Rattle.disk.specs.declared.faults.Fault.{Fault}
 use Rattle.disk.specs.declared.faults.Fault.TheVariants.{PowerOff, Unreadable, NoSuchSector}
-use Rattle.sheet.specs.declared.twins.Renewal.{Renewal}
-use Rattle.sheet.specs.declared.twins.Renewal.TheVariants as renewal
 
 abbrev pub Both : ℕ → ℕ → List ℕ → DiskState → Type 0
 Both first second sheet d = At d first (holds sheet) × At d second (holds sheet)
@@ -61,9 +59,9 @@ WritesBoth first second new d (Err (Unreadable p)) e = ⊥
 WritesBoth first second new d (Err NoSuchSector) e = (d.power ≡ true) × (e.power ≡ true) × Missing first second new d e.sectors
 
 -- 9 names 0 here: the start was refused.
-abbrev pub Rewrites : ℕ → ℕ → List ℕ → DiskState → Result Renewal Fault → DiskState → Type 0
-Rewrites first second new d (Ok renewal.Written) e = Doubled first second new d e
-Rewrites first second new d (Ok (renewal.Cut s)) e = (e.power ≡ true) × CutIn first second new d s e.sectors
+abbrev pub Rewrites : ℕ → ℕ → List ℕ → DiskState → Result (Option ℕ) Fault → DiskState → Type 0
+Rewrites first second new d (Ok None) e = Doubled first second new d e
+Rewrites first second new d (Ok (Some s)) e = (e.power ≡ true) × CutIn first second new d s e.sectors
 Rewrites first second new d (Err (PowerOff p)) e = (p ≡ 0) × (e.power ≡ false) × ((s : ℕ) × CutIn first second new d s e.sectors)
 Rewrites first second new d (Err (Unreadable p)) e = ⊥
 Rewrites first second new d (Err NoSuchSector) e = (d.power ≡ true) × (e.power ≡ true) × Missing first second new d e.sectors
@@ -89,17 +87,17 @@ pub data RenewRefused (first second : ℕ) (new : List ℕ) (d : DiskState) (x :
   -- the start after a cut was refused
   stays-off : x ≡ refusal.PowerOff 0 → e.power ≡ false → (s : ℕ) → CutIn first second new d s e.sectors → RenewRefused first second new d x e
   -- the copies were rewritten, with the disk m after it, and the reading back was refused
-  unread : (how : Renewal) (m : DiskState) (y : Fault) → x ≡ refusal_of y → Rewrites first second new d (Ok how) m → FetchRefused first second m y e → RenewRefused first second new d x e
+  unread : (cut : Option ℕ) (m : DiskState) (y : Fault) → x ≡ refusal_of y → Rewrites first second new d (Ok cut) m → FetchRefused first second m y e → RenewRefused first second new d x e
 
-abbrev pub Leaves : ℕ → ℕ → List ℕ → DiskState → List ℕ → Result Renewal Refusal → DiskState → List ℕ → Type 0
-Leaves first second new d old (Ok renewal.Written) e back = Doubled first second new d e × (back ≡ new)
-Leaves first second new d old (Ok (renewal.Cut s)) e back = (e.power ≡ true) × CutIn first second new d s e.sectors × ((t : ℕ) × Standing first second e t back)
+abbrev pub Leaves : ℕ → ℕ → List ℕ → DiskState → List ℕ → Result (Option ℕ) Refusal → DiskState → List ℕ → Type 0
+Leaves first second new d old (Ok None) e back = Doubled first second new d e × (back ≡ new)
+Leaves first second new d old (Ok (Some s)) e back = (e.power ≡ true) × CutIn first second new d s e.sectors × ((t : ℕ) × Standing first second e t back)
 Leaves first second new d old (Err x) e back = (back ≡ old) × RenewRefused first second new d x e
 
-abbrev pub Renewed : List ℕ → List ℕ → Result Renewal Refusal → List ℕ → Type 0
-Renewed old new (Ok renewal.Written) back = back ≡ new
-Renewed old new (Ok (renewal.Cut s)) back = (back ≡ old) ⊎ (back ≡ new)
+abbrev pub Renewed : List ℕ → List ℕ → Result (Option ℕ) Refusal → List ℕ → Type 0
+Renewed old new (Ok None) back = back ≡ new
+Renewed old new (Ok (Some s)) back = (back ≡ old) ⊎ (back ≡ new)
 Renewed old new (Err x) back = number_of x ≡ 9
 
-abbrev pub Renews : ℕ → ℕ → List ℕ → DiskState → Result Renewal Refusal → DiskState → List ℕ → Type 0
+abbrev pub Renews : ℕ → ℕ → List ℕ → DiskState → Result (Option ℕ) Refusal → DiskState → List ℕ → Type 0
 Renews first second new d r e back = first + 2 ≤ second → (old : List ℕ) → Both first second old d → Renewed old new r back × Stands first second old new e

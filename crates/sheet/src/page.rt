@@ -22,10 +22,5 @@ pub fn page_of(text: &str) -> Result<[u8; 512], Refusal>
 pub fn text_length(page: &[u8; 512]) -> usize
     ensures { result ≡ text_length page.now }
 {
-    for (i, byte) in page.iter().enumerate() {
-        if *byte == 0 {
-            return i;
-        }
-    }
-    512
+    page.iter().take_while(|byte| **byte != 0).count()
 }

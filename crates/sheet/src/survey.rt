@@ -10,13 +10,10 @@ pub fn can_read<D: Disk>(disk: &mut D, sector: u32) -> Result<bool, Fault>
     ensures rule { Looks sector (D.state disk.old) result (D.state disk.new) }
     ensures same { D.layers disk.new ≡ D.layers disk.old }
 {
-    let mut work = [0u8; 512];
-    match disk.read(sector, &mut work) {
+    match disk.read(sector, &mut [0; 512]) {
         Ok(()) => Ok(true),
-        Err(fault) => match fault {
-            Fault::Unreadable(_) => Ok(false),
-            other => Err(other),
-        },
+        Err(Fault::Unreadable(_)) => Ok(false),
+        Err(fault) => Err(fault),
     }
 }
 
@@ -26,8 +23,8 @@ pub fn survey<D: Disk>(disk: &mut D, first: u32) -> Result<[bool; 5], Fault>
     ensures same { D.layers disk.new ≡ D.layers disk.old }
 {
     let mut readable = [false; 5];
-    for i in 0..5u32 {
-        readable[i as usize] = can_read(disk, first + i)?;
+    for (i, mark) in readable.iter_mut().enumerate() {
+        *mark = can_read(disk, first + i as u32)?;
     }
     Ok(readable)
 }

@@ -7,91 +7,70 @@ use disk::disks::Disk;
 use disk::faults::Fault;
 use refusal::Refusal;
 
-/// How a sheet was renewed: both copies are written, or the write of this sector found no power or lost it, and the disk was started again.
+/// The sectors of a sheet's two copies.
 #[derive(Clone, Copy, PartialEq, Eq, Debug)]
-pub enum Renewal {
-    Written,
-    Cut(u32),
+pub struct Copies {
+    pub first: u32,
+    pub second: u32,
 }
 
-// Writes the first copy and then the second.
-fn write_both<D: Disk>(
-    disk: &mut D,
-    first: u32,
-    second: u32,
-    sheet: &[u8; 512],
-) -> Result<(), Fault>
-    ensures rule { WritesBoth first second sheet.now (D.state disk.old) result (D.state disk.new) }
-    ensures same { D.layers disk.new ≡ D.layers disk.old }
-{
-    disk.write(first, sheet)?;
-    disk.write(second, sheet)
-}
+impl Copies {
+    // Writes the first copy and then the second.
+    fn write<D: Disk>(self, disk: &mut D, sheet: &[u8; 512]) -> Result<(), Fault>
+        ensures rule { WritesBoth self.first self.second sheet.now (D.state disk.old) result (D.state disk.new) }
+        ensures same { D.layers disk.new ≡ D.layers disk.old }
+    {
+        disk.write(self.first, sheet)?;
+        disk.write(self.second, sheet)
+    }
 
-// Writes both copies, and starts the disk again where the power failed in it.
-fn rewrite<D: Disk>(
-    disk: &mut D,
-    first: u32,
-    second: u32,
-    sheet: &[u8; 512],
-) -> Result<Renewal, Fault>
-    ensures rule { Rewrites first second sheet.now (D.state disk.old) result (D.state disk.new) }
-    ensures same { D.layers disk.new ≡ D.layers disk.old }
-{
-    match write_both(disk, first, second, sheet) {
-        Ok(()) => Ok(Renewal::Written),
-        Err(fault) => match fault {
-            Fault::PowerOff(sector) => {
+    // Writes both copies, and starts the disk again where the power was off or failed in the write of one, whose sector it answers.
+    fn rewrite<D: Disk>(self, disk: &mut D, sheet: &[u8; 512]) -> Result<Option<u32>, Fault>
+        ensures rule { Rewrites self.first self.second sheet.now (D.state disk.old) result (D.state disk.new) }
+        ensures same { D.layers disk.new ≡ D.layers disk.old }
+    {
+        match self.write(disk, sheet) {
+            Ok(()) => Ok(None),
+            Err(Fault::PowerOff(sector)) => {
                 (*disk).start()?;
-                Ok(Renewal::Cut(sector))
+                Ok(Some(sector))
             }
-            other => Err(other),
-        },
+            Err(fault) => Err(fault),
+        }
     }
-}
 
-/// Reads the first copy, or the second where the first is unreadable, and answers which it was.
-pub fn fetch<D: Disk>(
-    disk: &mut D,
-    first: u32,
-    second: u32,
-    back: &mut [u8; 512],
-) -> Result<u32, Fault>
-    ensures rule { Fetches first second (D.state disk.old) back.old result (D.state disk.new) back.new }
-    ensures same { D.layers disk.new ≡ D.layers disk.old }
-{
-    match disk.read(first, back) {
-        Ok(()) => Ok(first),
-        Err(fault) => match fault {
-            Fault::Unreadable(_) => {
-                disk.read(second, back)?;
-                Ok(second)
+    /// Reads the first copy, or the second where the first is unreadable, and answers which sector it was.
+    pub fn fetch<D: Disk>(self, disk: &mut D, back: &mut [u8; 512]) -> Result<u32, Fault>
+        ensures rule { Fetches self.first self.second (D.state disk.old) back.old result (D.state disk.new) back.new }
+        ensures same { D.layers disk.new ≡ D.layers disk.old }
+    {
+        match disk.read(self.first, back) {
+            Ok(()) => Ok(self.first),
+            Err(Fault::Unreadable(_)) => {
+                disk.read(self.second, back)?;
+                Ok(self.second)
             }
-            other => Err(other),
-        },
+            Err(fault) => Err(fault),
+        }
     }
-}
 
-/// Writes a new sheet to both copies, which have to lie two sectors apart, so that no cut damages both, the first one lower: else 15, and nothing is written. If the power is off or fails in it, starts the disk again. Then reads back what stands.
-pub fn renew<D: Disk>(
-    disk: &mut D,
-    first: u32,
-    second: u32,
-    sheet: &[u8; 512],
-    back: &mut [u8; 512],
-) -> Result<Renewal, Refusal>
-    ensures law { Renews first second sheet.now (D.state disk.old) result (D.state disk.new) back.new }
-    ensures rule { Leaves first second sheet.now (D.state disk.old) back.old result (D.state disk.new) back.new }
-    ensures near { second < first + 2 → (result ≡ Err BadNumbers) × (disk.new ≡ disk.old) × (back.new ≡ back.old) }
-    ensures same { D.layers disk.new ≡ D.layers disk.old }
-{
-    if second < 2 {
-        return Err(Refusal::BadNumbers);
+    /// Writes a new sheet to both copies, which have to lie two sectors apart, so that no cut damages both, the first one lower: else 15, and nothing is written. If the power is off or fails in the write of a copy, starts the disk again, and answers that copy's sector. Then reads back what stands.
+    pub fn renew<D: Disk>(
+        self,
+        disk: &mut D,
+        sheet: &[u8; 512],
+        back: &mut [u8; 512],
+    ) -> Result<Option<u32>, Refusal>
+        ensures law { Renews self.first self.second sheet.now (D.state disk.old) result (D.state disk.new) back.new }
+        ensures rule { Leaves self.first self.second sheet.now (D.state disk.old) back.old result (D.state disk.new) back.new }
+        ensures near { self.second < self.first + 2 → (result ≡ Err BadNumbers) × (disk.new ≡ disk.old) × (back.new ≡ back.old) }
+        ensures same { D.layers disk.new ≡ D.layers disk.old }
+    {
+        if self.second.saturating_sub(self.first) < 2 {
+            return Err(Refusal::BadNumbers);
+        }
+        let cut = self.rewrite(disk, sheet)?;
+        self.fetch(disk, back)?;
+        Ok(cut)
     }
-    if first > second - 2 {
-        return Err(Refusal::BadNumbers);
-    }
-    let renewal = rewrite(disk, first, second, sheet)?;
-    fetch(disk, first, second, back)?;
-    Ok(renewal)
 }
