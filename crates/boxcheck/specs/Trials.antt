@@ -1,13 +1,10 @@
 -- What a trial of the box check says.
 --     Tells        which of two sheets a third is
---     cut_of       the sector in whose write the power failed
 --     OldOrNew     a trial that was carried out read back the old sheet or the new one
 --     Told         a trial tells of one renewal of a disk that held the old sheet twice: its answer, the sectors after it, what was read back and from where
 --     Carried      a trial that was carried out tells so
-use Rattle.std.specs.Prelude.{◌≡◌, ℕ, List, Some, None, Ok, Err, Option, Result, ◌≢◌}
+use Rattle.std.specs.Prelude.{◌≡◌, ℕ, List, Ok, Err, Result, ◌≢◌}
 use Rattle.refusal.specs.declared.Refusal.{Refusal}
-use Rattle.sheet.specs.declared.twins.Renewal.{Renewal}
-use Rattle.sheet.specs.declared.twins.Renewal.TheVariants.{Written, Cut}
 use Rattle.failing.specs.declared.manner.Manner.{Manner}
 use Rattle.disk.specs.Sectors.{DiskState}
 use Rattle.sheet.specs.Twins.{Both, Standing, Leaves}
@@ -25,20 +22,14 @@ abbrev pub OldOrNew : Result Trial Refusal → Type 0
 OldOrNew (Ok trial) = trial.came ≡ Other → ⊥
 OldOrNew (Err refusal) = Unit {0}
 
-abbrev pub cut_of : Renewal → Option ℕ
-cut_of Written = None
-cut_of (Cut s) = Some s
-
 pub record Told (old new : List ℕ) (manner : Manner) (trial : Trial) : Type 0 where
   pub before : DiskState
   pub after : DiskState
-  pub how : Renewal
   -- what the caller's bytes were, and what was read back
   pub was : List ℕ
   pub back : List ℕ
   pub both : Both 2 4 old before
-  pub left : Leaves 2 4 new before was (Ok how) after back
-  pub cut : trial.cut ≡ cut_of how
+  pub left : Leaves 2 4 new before was (Ok trial.cut) after back
   pub chosen : trial.manner ≡ manner
   pub readable : trial.readable ≡ marks 1 after.sectors
   pub came : Tells back old new trial.came

@@ -1,6 +1,6 @@
 // One trial: a sheet is renewed on a fresh disk whose power fails, and read back.
 ghost use Rattle.std.specs.Prelude.{◌≡◌, IfOk};
-ghost use Rattle.boxcheck.specs.Trials.{Tells, OldOrNew, Carried, cut_of};
+ghost use Rattle.boxcheck.specs.Trials.{Tells, OldOrNew, Carried};
 
 use disk::disks::Spoilable;
 use failing::failing::Failing;
@@ -8,7 +8,7 @@ use failing::manner::Manner;
 use image::Image;
 use refusal::Refusal;
 use sheet::survey::survey;
-use sheet::twins::{Renewal, fetch, renew};
+use sheet::twins::Copies;
 use std::alloc::{AllocError, Global};
 use window::Window;
 
@@ -22,9 +22,10 @@ pub const MANNERS: [Manner; 5] = [
 
 const SECTORS: usize = 16;
 
-const FIRST: u32 = 2;
-
-const SECOND: u32 = 4;
+const COPIES: Copies = Copies {
+    first: 2,
+    second: 4,
+};
 
 /// Which sheet was read back.
 #[derive(Clone, Copy)]
@@ -56,16 +57,6 @@ fn which(back: &[u8; 512], old: &[u8; 512], new: &[u8; 512]) -> Came
     }
 }
 
-// The sector in whose write the power failed.
-fn cut_of(renewal: Renewal) -> Option<u32>
-    ensures { result ≡ cut_of renewal }
-{
-    match renewal {
-        Renewal::Written => None,
-        Renewal::Cut(sector) => Some(sector),
-    }
-}
-
 // The trial on any disk that can be spoiled: the old sheet on both copies, then the new one on the failing disk.
 fn on_disk<D: Spoilable>(
     part: &mut D,
@@ -78,16 +69,14 @@ fn on_disk<D: Spoilable>(
     ensures tells { Carried old.now new.now manner result }
 {
     let mut back = [0u8; 512];
-    match renew(part, FIRST, SECOND, old, &mut back)? {
-        Renewal::Written => {}
-        Renewal::Cut(sector) => return Err(Refusal::PowerOff(sector)),
+    if let Some(sector) = COPIES.renew(part, old, &mut back)? {
+        return Err(Refusal::PowerOff(sector));
     }
     let mut disk = Failing::new(part, calls, manner);
-    let renewal = renew(&mut disk, FIRST, SECOND, new, &mut back)?;
+    let cut = COPIES.renew(&mut disk, new, &mut back)?;
     let came = which(&back, old, new);
-    let source = fetch(&mut disk, FIRST, SECOND, &mut back)?;
-    let readable = survey(&mut disk, FIRST - 1)?;
-    let cut = cut_of(renewal);
+    let source = COPIES.fetch(&mut disk, &mut back)?;
+    let readable = survey(&mut disk, COPIES.first - 1)?;
     Ok(Trial {
         cut,
         manner,

@@ -1,4 +1,4 @@
-use Rattle.std.proofs.Common.{◌≡◌, replicate, sym, ap, subst, arith}
+use Rattle.std.proofs.Common.{◌≡◌, None, replicate, sym, ap, subst, arith}
 use Rattle.sheet.specs.Twins.{Both}
 use Rattle.failing.specs.OfFailing.{failing_state}
 use Rattle.boxcheck.proofs.Telling.{told}
@@ -12,12 +12,13 @@ returns g c =
     let new = c.args.new.now in
     let disk = c.new-disk.result in
     let lent : disk.below.now ≡ c.renew.new.disk = ap (λ r. r.now) c.new-disk.ensures.below in
-    let both = both-written old (replicate 512 0) c.renew.new.back c.in_ok-renew.field-0 (st c.args.part.now) (st c.renew.new.disk) c.in-Written.is c.in_ok-renew.ensures.rule in
+    let whole : c.in_ok-sector.field-0 ≡ None = grind arith in
+    let both = both-written old (replicate 512 0) c.renew.new.back c.in_ok-sector.field-0 (st c.args.part.now) (st c.renew.new.disk) whole c.in_ok-sector.ensures.rule in
     let seen = both-seen old disk.off (st disk.below.now) (subst (λ p. Both 2 4 old (st p)) (sym lent) both) in
-    let law = c.in_ok-renewal.ensures.law (omega arith) old seen in
+    let law = c.in_ok-cut.ensures.law (omega arith) old seen in
     let seen-as = failing_state (λ r. st r.now) in
-    let how = c.in_ok-renewal.renewal in
+    let cut = c.in_ok-cut.cut in
     record {
-      law = never-other c.renew-2.new.back old new c.which-came.result how c.which-came.ensures law.0;
-      tells = told old new c.renew.new.back c.renew-2.new.back c.fetch.new.back c.args.manner (seen-as disk) (seen-as c.renew-2.new.disk) (seen-as c.fetch.new.disk) (seen-as c.survey.new.disk) how c.cut_of-cut.result c.in_ok-readable.readable c.which-came.result c.in_ok-source.source seen c.in_ok-renewal.ensures.rule c.in_ok-source.ensures.rule c.in_ok-readable.ensures.rule c.which-came.ensures c.cut_of-cut.ensures;
+      law = never-other c.renew-2.new.back old new c.which-came.result cut c.which-came.ensures law.0;
+      tells = told old new c.renew.new.back c.renew-2.new.back c.fetch.new.back c.args.manner (seen-as disk) (seen-as c.renew-2.new.disk) (seen-as c.fetch.new.disk) (seen-as c.survey.new.disk) cut c.in_ok-readable.readable c.which-came.result c.in_ok-source.source seen c.in_ok-cut.ensures.rule c.in_ok-source.ensures.rule c.in_ok-readable.ensures.rule c.which-came.ensures;
     }
