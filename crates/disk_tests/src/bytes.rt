@@ -2,9 +2,9 @@
 
 /// Makes each sector readable, and sector `s` hold `s + 1` in each byte.
 pub fn put_sectors(bytes: &mut [u8]) {
-    for i in 0..bytes.len() {
+    for (i, byte) in bytes.iter_mut().enumerate() {
         let inner = (i / 513 % 255 + 1) as u8;
-        bytes[i] = if i % 513 == 0 { 0 } else { inner };
+        *byte = if i % 513 == 0 { 0 } else { inner };
     }
 }
 
@@ -15,28 +15,22 @@ fn tail_byte(i: usize) -> u8 {
 
 /// Sets the bytes from `from` on to those of a tail.
 pub fn put_tail(bytes: &mut [u8], from: usize) {
-    for i in from..bytes.len() {
-        bytes[i] = tail_byte(i);
+    if let Some(tail) = bytes.get_mut(from..) {
+        for (i, byte) in (from..).zip(tail) {
+            *byte = tail_byte(i);
+        }
     }
 }
 
 /// How many bytes from `from` on are those of a tail.
 pub fn count_tail(bytes: &[u8], from: usize) -> usize {
-    let mut same = 0usize;
-    for i in from..bytes.len() {
-        if bytes[i] == tail_byte(i) {
-            same = same.saturating_add(1);
-        }
-    }
-    same
+    (from..)
+        .zip(bytes.get(from..).unwrap_or(&[]))
+        .filter(|(i, byte)| **byte == tail_byte(*i))
+        .count()
 }
 
 /// Whether each byte of a block is `value`.
 pub fn is_all(block: &[u8; 512], value: u8) -> bool {
-    for byte in block {
-        if *byte != value {
-            return false;
-        }
-    }
-    true
+    block.iter().all(|byte| *byte == value)
 }

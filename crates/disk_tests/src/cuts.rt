@@ -1,9 +1,9 @@
 // A power that fails in a chosen call, over three sectors that hold 1, 2 and 3.
 use crate::bytes::put_sectors;
-use crate::kinds::{on_failing, on_failing_over, on_image, on_window_over};
+use crate::kinds::{image_of, on_failing, on_image, on_window};
 use crate::scripts::Answer::*;
 use crate::scripts::Call::*;
-use crate::scripts::{Answer, Call, play_row};
+use crate::scripts::{Answer, Call, ask, play};
 use failing::failing::Failing;
 use failing::manner::Manner;
 use image::Image;
@@ -14,7 +14,7 @@ use window::Window;
 fn failing(rt: &impl Abort, calls: u32, manner: Manner, script: &[(Call, Answer)]) {
     let mut bytes = [0; 1539];
     put_sectors(&mut bytes);
-    on_failing(rt, &mut bytes, true, calls, manner, script, &[]);
+    on_failing(rt, Image::new(&mut bytes), calls, manner, script, &[]);
 }
 
 // Sectors that are unreadable.
@@ -49,9 +49,10 @@ const ALL: [Row; 15] = [
 fn check_row(rt: &impl Abort, (manner, sector, left_0, left_1, left_2): Row) {
     let mut bytes = [0; 1539];
     put_sectors(&mut bytes);
-    play_row(
+    play(
         rt,
         &(manner, sector),
+        ask,
         &mut Failing::new(Image::new(&mut bytes), 0, manner),
         &[
             (Write(sector, 9), Refused(9, Some(sector))),
@@ -165,8 +166,7 @@ fn calls_with_power_off_do_not_count(rt: HostRuntime) {
     put_sectors(&mut bytes);
     on_failing(
         &rt,
-        &mut bytes,
-        false,
+        image_of(&mut bytes, false),
         1,
         Manner::NewBytes,
         &[
@@ -192,7 +192,7 @@ const CUT: [(Call, Answer); 3] = [
 fn below_a_window_it_reaches_past_the_window(rt: HostRuntime) {
     let mut bytes = [0; 1539];
     put_sectors(&mut bytes);
-    on_window_over(
+    on_window(
         &rt,
         Failing::new(Image::new(&mut bytes), 0, Manner::OwnAndBelow),
         (1, 1),
@@ -205,7 +205,7 @@ fn below_a_window_it_reaches_past_the_window(rt: HostRuntime) {
 fn above_a_window_it_stays_in_the_window(rt: HostRuntime) {
     let mut bytes = [0; 1539];
     put_sectors(&mut bytes);
-    on_failing_over(
+    on_failing(
         &rt,
         Window::new(Image::new(&mut bytes), 1, 1),
         0,

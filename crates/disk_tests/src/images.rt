@@ -52,8 +52,7 @@ fn no_call_touches_the_tail(rt: HostRuntime) {
     put_tail(&mut bytes, 1026);
     on_failing(
         &rt,
-        &mut bytes,
-        true,
+        Image::new(&mut bytes),
         2,
         Manner::OwnAndAbove,
         &[

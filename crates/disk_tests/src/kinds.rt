@@ -1,5 +1,5 @@
 // Scripts played on each kind of disk.
-use crate::scripts::{Answer, Call, play};
+use crate::scripts::{Answer, Call, ask, play};
 use disk::disks::Spoilable;
 use failing::failing::Failing;
 use failing::manner::Manner;
@@ -7,8 +7,8 @@ use image::Image;
 use std::process::Abort;
 use window::Window;
 
-// The image over `bytes`, with its power on or off.
-fn image_of(bytes: &mut [u8], power: bool) -> Image<'_> {
+/// The image over `bytes`, with its power on or off.
+pub fn image_of(bytes: &mut [u8], power: bool) -> Image<'_> {
     let mut image = Image::new(bytes);
     if !power {
         image.switch_off();
@@ -18,12 +18,12 @@ fn image_of(bytes: &mut [u8], power: bool) -> Image<'_> {
 
 /// Plays a script on an image.
 pub fn on_image(rt: &impl Abort, bytes: &mut [u8], power: bool, script: &[(Call, Answer)]) {
-    play(rt, &mut image_of(bytes, power), script);
+    play(rt, &"image", ask, &mut image_of(bytes, power), script);
 }
 
 // Plays a script on a disk by value.
 fn on_disk<D: Spoilable + Drop>(rt: &impl Abort, mut disk: D, script: &[(Call, Answer)]) {
-    play(rt, &mut disk, script);
+    play(rt, &"lent", ask, &mut disk, script);
 }
 
 /// Plays a script on an image that is lent.
@@ -33,7 +33,7 @@ pub fn on_lent(rt: &impl Abort, bytes: &mut [u8], script: &[(Call, Answer)]) {
 }
 
 /// Plays a script on a window over a disk, and then one on the disk that the window gives back.
-pub fn on_window_over<D: Spoilable + Drop>(
+pub fn on_window<D: Spoilable + Drop>(
     rt: &impl Abort,
     disk: D,
     (first, length): (u32, u32),
@@ -41,24 +41,12 @@ pub fn on_window_over<D: Spoilable + Drop>(
     below: &[(Call, Answer)],
 ) {
     let mut window = Window::new(disk, first, length);
-    play(rt, &mut window, script);
-    play(rt, &mut window.into_below(), below);
-}
-
-/// The same over an image.
-pub fn on_window(
-    rt: &impl Abort,
-    bytes: &mut [u8],
-    power: bool,
-    part: (u32, u32),
-    script: &[(Call, Answer)],
-    below: &[(Call, Answer)],
-) {
-    on_window_over(rt, image_of(bytes, power), part, script, below);
+    play(rt, &"window", ask, &mut window, script);
+    play(rt, &"below", ask, &mut window.into_below(), below);
 }
 
 /// Plays a script on a disk whose power fails after `calls` calls, and then one on the disk below, given back.
-pub fn on_failing_over<D: Spoilable + Drop>(
+pub fn on_failing<D: Spoilable + Drop>(
     rt: &impl Abort,
     disk: D,
     calls: u32,
@@ -67,19 +55,6 @@ pub fn on_failing_over<D: Spoilable + Drop>(
     below: &[(Call, Answer)],
 ) {
     let mut top = Failing::new(disk, calls, manner);
-    play(rt, &mut top, script);
-    play(rt, &mut top.into_below(), below);
-}
-
-/// The same over an image.
-pub fn on_failing(
-    rt: &impl Abort,
-    bytes: &mut [u8],
-    power: bool,
-    calls: u32,
-    manner: Manner,
-    script: &[(Call, Answer)],
-    below: &[(Call, Answer)],
-) {
-    on_failing_over(rt, image_of(bytes, power), calls, manner, script, below);
+    play(rt, &"failing", ask, &mut top, script);
+    play(rt, &"below", ask, &mut top.into_below(), below);
 }

@@ -3,16 +3,18 @@ use crate::bytes::put_sectors;
 use crate::plain::Plain;
 use crate::scripts::Answer::*;
 use crate::scripts::Call::*;
-use crate::scripts::{Answer, Call, play_any};
+use crate::scripts::{Answer, Call, ask_any, play};
 use failing::manner::Manner;
 use image::Image;
 use marking::marking::Marking;
+use std::fmt::Debug;
 use std::process::Abort;
 use window::Window;
 
-// Plays a script on the disk whose power fails after `calls` calls, and then one on the disk below, given back.
+// Plays a script on the disk whose power fails after `calls` calls, and then one on the disk below, given back. A wrong answer names `row`.
 fn five(
     rt: &impl Abort,
+    row: &impl Debug,
     calls: u32,
     manner: Manner,
     script: &[(Call, Answer)],
@@ -24,8 +26,8 @@ fn five(
         below: Image::new(&mut bytes),
     };
     let mut disk = Marking::new(plain, calls, manner);
-    play_any(rt, &mut disk, script);
-    play_any(rt, &mut disk.into_below(), below);
+    play(rt, &("marking", row), ask_any, &mut disk, script);
+    play(rt, &("below", row), ask_any, &mut disk.into_below(), below);
 }
 
 // A manner, the sector written, and what the five sectors are then.
@@ -115,6 +117,7 @@ const ALL: [Row; 15] = [
 fn check_row(rt: &impl Abort, (manner, sector, left): Row) {
     five(
         rt,
+        &(manner, sector),
         0,
         manner,
         &[
@@ -155,8 +158,8 @@ fn check_row(rt: &impl Abort, (manner, sector, left): Row) {
 
 #[test]
 fn each_manner_at_the_first_a_middle_and_the_last_sector(rt: HostRuntime) {
-    for i in 0..ALL.len() {
-        check_row(&rt, ALL[i]);
+    for row in &ALL {
+        check_row(&rt, *row);
     }
 }
 
@@ -164,6 +167,7 @@ fn each_manner_at_the_first_a_middle_and_the_last_sector(rt: HostRuntime) {
 fn a_lost_neighbour_is_lost_until_it_is_written_itself(rt: HostRuntime) {
     five(
         &rt,
+        &(),
         1,
         Manner::OwnAndAbove,
         &[
@@ -189,6 +193,7 @@ fn a_lost_neighbour_is_lost_until_it_is_written_itself(rt: HostRuntime) {
 fn the_disk_below_still_has_what_was_lost(rt: HostRuntime) {
     five(
         &rt,
+        &(),
         0,
         Manner::OwnAndBelow,
         &[
@@ -205,6 +210,7 @@ fn the_disk_below_still_has_what_was_lost(rt: HostRuntime) {
 fn a_run_over_lost_sectors(rt: HostRuntime) {
     five(
         &rt,
+        &(),
         0,
         Manner::OwnAndAbove,
         &[
@@ -228,7 +234,13 @@ fn twice(rt: &impl Abort, manner: Manner, script: &[(Call, Answer)]) {
     let plain = Plain {
         below: Marking::new(Image::new(&mut bytes), 2, Manner::NewBytes),
     };
-    play_any(rt, &mut Marking::new(plain, 0, manner), script);
+    play(
+        rt,
+        &manner,
+        ask_any,
+        &mut Marking::new(plain, 0, manner),
+        script,
+    );
 }
 
 #[test]
@@ -296,8 +308,10 @@ fn the_power_below_fails_in_the_chosen_call(rt: HostRuntime) {
     let plain = Plain {
         below: Marking::new(Image::new(&mut bytes), 0, Manner::Own),
     };
-    play_any(
+    play(
         &rt,
+        &"marking",
+        ask_any,
         &mut Marking::new(plain, 0, Manner::OwnAndAbove),
         &[
             (Write(1, 9), Refused(9, Some(1))),
@@ -318,8 +332,10 @@ fn under_a_window(rt: HostRuntime) {
         below: Image::new(&mut bytes),
     };
     let mut window = Window::new(Marking::new(plain, 0, Manner::OwnAndBelow), 2, 2);
-    play_any(
+    play(
         &rt,
+        &"window",
+        ask_any,
         &mut window,
         &[
             (Write(0, 9), Refused(9, Some(0))),
@@ -331,8 +347,10 @@ fn under_a_window(rt: HostRuntime) {
             (Read(0), Holds(8)),
         ],
     );
-    play_any(
+    play(
         &rt,
+        &"below",
+        ask_any,
         &mut window.into_below(),
         &[(Read(1), BAD_1), (Read(2), Holds(8))],
     );

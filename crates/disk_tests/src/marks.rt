@@ -3,7 +3,7 @@ use crate::bytes::put_sectors;
 use crate::kinds::on_image;
 use crate::scripts::Answer::*;
 use crate::scripts::Call::*;
-use crate::scripts::{Answer, Call, play, play_any};
+use crate::scripts::{Answer, Call, ask, play};
 use failing::manner::Manner;
 use image::Image;
 use marking::marking::Marking;
@@ -21,8 +21,8 @@ fn marking(
     let mut bytes = [0; 1539];
     put_sectors(&mut bytes);
     let mut disk = Marking::new(Image::new(&mut bytes), calls, manner);
-    play(rt, &mut disk, script);
-    play(rt, &mut disk.into_below(), below);
+    play(rt, &"marking", ask, &mut disk, script);
+    play(rt, &"below", ask, &mut disk.into_below(), below);
 }
 
 // Sectors that are unreadable.
@@ -39,8 +39,10 @@ fn above_a_window_the_disk_below_is_as_before(rt: HostRuntime) {
         0,
         Manner::OwnAndBelow,
     );
-    play_any(
+    play(
         &rt,
+        &"marking",
+        ask,
         &mut disk,
         &[
             (Write(0, 9), Refused(9, Some(0))),
@@ -48,7 +50,13 @@ fn above_a_window_the_disk_below_is_as_before(rt: HostRuntime) {
             (Read(0), BAD_0),
         ],
     );
-    play_any(&rt, &mut disk.into_below(), &[(Count, Sectors(1))]);
+    play(
+        &rt,
+        &"below",
+        ask,
+        &mut disk.into_below(),
+        &[(Count, Sectors(1))],
+    );
     on_image(
         &rt,
         &mut bytes,

@@ -7,6 +7,7 @@ use crate::scripts::{Answer, Call};
 use disk::faults::Fault;
 use refusal::Refusal;
 use std::process::Abort;
+use std::test::Fail;
 
 // A refusal, its number, its place and its words.
 type Row = (Refusal, u8, Option<u32>, &'static str);
@@ -36,15 +37,11 @@ fn check_row(rt: &impl Abort, (refusal, number, place, words): Row) {
     assert_eq!(rt; refusal.words(), words);
 }
 
-fn check_rows(rt: &impl Abort, rows: &[Row]) {
-    for i in 0..rows.len() {
-        check_row(rt, rows[i]);
-    }
-}
-
 #[test]
 fn numbers_places_and_words(rt: HostRuntime) {
-    check_rows(&rt, &ALL);
+    for row in &ALL {
+        check_row(&rt, *row);
+    }
 }
 
 // Checks which refusal a fault is.
@@ -57,6 +54,17 @@ fn faults_are_refusals(rt: HostRuntime) {
     is(&rt, Fault::PowerOff(5), Refusal::PowerOff(5));
     is(&rt, Fault::Unreadable(6), Refusal::Unreadable(6));
     is(&rt, Fault::NoSuchSector, Refusal::NoSuchSector);
+}
+
+#[test]
+fn printed(rt: HostRuntime) -> Result<(), Fail> {
+    let with_a_place = format!(in rt.alloc(); "{}", Refusal::PowerOff(21))?;
+    assert_eq!(rt; with_a_place.as_str(), "9 power off");
+    let with_none = format!(in rt.alloc(); "{}", Refusal::VersionAbove)?;
+    assert_eq!(rt; with_none.as_str(), "4 version above 9,999");
+    let of_a_fault = format!(in rt.alloc(); "{}", Fault::Unreadable(22))?;
+    assert_eq!(rt; of_a_fault.as_str(), "10 unreadable");
+    Ok(())
 }
 
 // Plays a script on two sectors, of which the first holds 1 and the second is unreadable.

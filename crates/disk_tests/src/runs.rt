@@ -5,6 +5,7 @@ use crate::scripts::Answer::*;
 use crate::scripts::Call::*;
 use crate::scripts::{Answer, Call};
 use failing::manner::Manner;
+use image::Image;
 use std::process::Abort;
 
 // Plays a script on the three sectors, with power on or off.
@@ -73,8 +74,7 @@ fn cut_in_the_middle(rt: HostRuntime) {
     put_sectors(&mut bytes);
     on_failing(
         &rt,
-        &mut bytes,
-        true,
+        Image::new(&mut bytes),
         1,
         Manner::Own,
         &[

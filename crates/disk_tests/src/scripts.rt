@@ -60,8 +60,8 @@ fn run<D: Disk>(disk: &mut D, first: u32, many: usize) -> Answer {
     answer_of(write_run(disk, first, &blocks[0..many.min(4)]))
 }
 
-// The answer to a call that every disk has, and none to a spoil.
-fn ask_any<D: Disk>(disk: &mut D, call: Call) -> Option<Answer> {
+/// The answer to a call that every disk has, and none to a spoil.
+pub fn ask_any<D: Disk>(disk: &mut D, call: Call) -> Option<Answer> {
     match call {
         Call::Count => Some(Answer::Sectors((*disk).count())),
         Call::Start => Some(answer_of(disk.start())),
@@ -72,39 +72,25 @@ fn ask_any<D: Disk>(disk: &mut D, call: Call) -> Option<Answer> {
     }
 }
 
-// The answer to any call.
-fn ask<D: Spoilable>(disk: &mut D, call: Call) -> Option<Answer> {
+/// The answer to any call.
+pub fn ask<D: Spoilable>(disk: &mut D, call: Call) -> Option<Answer> {
     match call {
         Call::Spoil(sector) => Some(answer_of(disk.spoil(sector))),
         _ => ask_any(disk, call),
     }
 }
 
-/// Makes each call of a script in turn, and checks its answer.
-pub fn play<D: Spoilable>(rt: &impl Abort, disk: &mut D, script: &[(Call, Answer)]) {
-    for i in 0..script.len() {
-        let (call, answer) = script[i];
-        assert_eq!(rt; ask(disk, call), Some(answer), "{}", i);
-    }
-}
-
-/// The same for a row of a table, which a wrong answer names.
-pub fn play_row<D: Spoilable>(
+/// Makes each call of a script in turn by `ask`, and checks its answer. A wrong one names the row of a table, or which script it was, and the call.
+pub fn play<D, F: Fn(&mut D, Call) -> Option<Answer>>(
     rt: &impl Abort,
     row: &impl Debug,
+    ask: F,
     disk: &mut D,
     script: &[(Call, Answer)],
-) {
-    for i in 0..script.len() {
-        let (call, answer) = script[i];
-        assert_eq!(rt; ask(disk, call), Some(answer), "{:?}: {}", row, i);
-    }
-}
-
-/// The same as `play` on a disk that may be one that cannot be spoiled. The script has no spoil.
-pub fn play_any<D: Disk>(rt: &impl Abort, disk: &mut D, script: &[(Call, Answer)]) {
-    for i in 0..script.len() {
-        let (call, answer) = script[i];
-        assert_eq!(rt; ask_any(disk, call), Some(answer), "{}", i);
+)
+    requires { F.IsAlwaysCallable ask }
+{
+    for (i, (call, answer)) in script.iter().enumerate() {
+        assert_eq!(rt; ask(disk, *call), Some(*answer), "{:?}: {}", row, i);
     }
 }

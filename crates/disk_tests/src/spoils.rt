@@ -1,6 +1,6 @@
 // Sectors made unreadable, among three that hold 1, 2 and 3.
 use crate::bytes::put_sectors;
-use crate::kinds::{on_image, on_lent, on_window};
+use crate::kinds::{image_of, on_image, on_lent, on_window};
 use crate::scripts::Answer::*;
 use crate::scripts::Call::*;
 use crate::scripts::{Answer, Call};
@@ -62,8 +62,7 @@ fn through_a_window(rt: HostRuntime) {
     put_sectors(&mut bytes);
     on_window(
         &rt,
-        &mut bytes,
-        false,
+        image_of(&mut bytes, false),
         (1, 1),
         &[
             (Spoil(0), Done),

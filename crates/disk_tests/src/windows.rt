@@ -1,9 +1,9 @@
 // Windows over four sectors that hold 1, 2, 3 and 4.
 use crate::bytes::put_sectors;
-use crate::kinds::{on_window, on_window_over};
+use crate::kinds::{image_of, on_window};
 use crate::scripts::Answer::*;
 use crate::scripts::Call::*;
-use crate::scripts::play_row;
+use crate::scripts::{ask, play};
 use image::Image;
 use std::process::Abort;
 use window::Window;
@@ -11,9 +11,10 @@ use window::Window;
 // Checks that a window has `count` sectors and no more.
 fn has(rt: &impl Abort, bytes: &mut [u8], part: (u32, u32), count: u32) {
     let (first, length) = part;
-    play_row(
+    play(
         rt,
         &part,
+        ask,
         &mut Window::new(Image::new(bytes), first, length),
         &[
             (Count, Sectors(count)),
@@ -58,8 +59,7 @@ fn sector_i_is_first_and_i_below(rt: HostRuntime) {
     put_sectors(&mut bytes);
     on_window(
         &rt,
-        &mut bytes,
-        true,
+        Image::new(&mut bytes),
         (1, 2),
         &[
             (Read(0), Holds(2)),
@@ -84,8 +84,7 @@ fn with_power_off(rt: HostRuntime) {
     put_sectors(&mut bytes);
     on_window(
         &rt,
-        &mut bytes,
-        false,
+        image_of(&mut bytes, false),
         (1, 2),
         &[
             (Read(0), Refused(9, Some(0))),
@@ -104,7 +103,7 @@ fn with_power_off(rt: HostRuntime) {
 fn over_a_window(rt: HostRuntime) {
     let mut bytes = [0; 2052];
     put_sectors(&mut bytes);
-    on_window_over(
+    on_window(
         &rt,
         Window::new(Image::new(&mut bytes), 1, 2),
         (1, 5),
