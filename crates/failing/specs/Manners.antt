@@ -1,9 +1,7 @@
--- The manners of a cut, and the calls that are left until it.
+-- The manners of a cut.
 --     leaves       the sectors that a write of bytes to sector s leaves, in each manner
 --     number_of    a number for each manner
---     is_due       no call is left before the one that fails
---     less_one     one call fewer is left
-use Rattle.std.specs.Prelude.{ℕ, ◌+◌, ◌-◌, Bool, false, List, Some, None, Option, ◌==◌, slice_set}
+use Rattle.std.specs.Prelude.{ℕ, ◌+◌, ◌-◌, List, slice_set}
 use Rattle.disk.specs.Sectors.{Sector, unreadable, holds}
 use Rattle.failing.specs.declared.manner.Manner.{Manner}
 use Rattle.failing.specs.declared.manner.Manner.TheVariants.{AsBefore, NewBytes, Own, OwnAndBelow, OwnAndAbove}
@@ -21,11 +19,3 @@ number_of NewBytes = 1
 number_of Own = 2
 number_of OwnAndBelow = 3
 number_of OwnAndAbove = 4
-
-abbrev pub is_due : Option ℕ → Bool
-is_due None = false
-is_due (Some calls) = calls == 0
-
-abbrev pub less_one : Option ℕ → Option ℕ
-less_one None = None
-less_one (Some calls) = Some (calls - 1)

@@ -1,12 +1,15 @@
 // The failing disk, over any disk that can be spoiled.
-ghost use Rattle.std.specs.Prelude.{◌≡◌, ◌<◌, true, false, Some, None};
+ghost use Rattle.std.specs.Prelude.{◌≡◌, ◌<◌, true, false, Some};
 ghost use Rattle.disk.specs.Sectors.{count};
 ghost use Rattle.disk.specs.Rules.{Starts, Reads, Writes, Spoils, Cut};
-ghost use Rattle.failing.specs.Manners.{leaves, is_due, less_one};
+ghost use Rattle.failing.specs.Manners.{leaves};
+ghost use Rattle.failing.specs.Phases.{off_in};
 ghost use Rattle.failing.specs.FailingSound.{failing-sound};
 ghost use Rattle.failing.specs.OfFailing.{below_of, left_of, manner_of, off_of, failing_state, failing_layers, Waits, StartWaits, StartDue, ReadDue, WriteDue, Rests, Refuses, StartRefuses, Spoiled};
 
 use crate::manner::Manner;
+use crate::phase::Phase;
+use crate::probe::{probe, reach};
 use disk::disks::{Disk, Spoilable};
 use disk::faults::Fault;
 
@@ -14,9 +17,8 @@ use disk::faults::Fault;
 #[derive(Drop)]
 pub struct Failing<D> {
     below: D,
-    left: Option<u32>,
     manner: Manner,
-    off: bool,
+    phase: Phase<()>,
 }
 
 impl<D: Spoilable> Failing<D> {
@@ -29,9 +31,8 @@ impl<D: Spoilable> Failing<D> {
     {
         Failing {
             below,
-            left: Some(calls),
             manner,
-            off: false,
+            phase: Phase::Before(calls),
         }
     }
 
@@ -39,46 +40,8 @@ impl<D: Spoilable> Failing<D> {
     pub fn into_below(self) -> D
         ensures { result ≡ below_of self }
     {
-        let Failing {
-            below: disk,
-            left: _,
-            manner: _,
-            off: _,
-        } = self;
-        disk
-    }
-
-    // Whether the power fails in the next call that could be carried out.
-    fn due(&self) -> bool
-        ensures { result ≡ is_due self.now.left }
-    {
-        match self.left {
-            Some(calls) => calls == 0,
-            None => false,
-        }
-    }
-
-    // One call is done.
-    fn pass(&mut self)
-        ensures left { self.new.left ≡ less_one self.old.left }
-        ensures below { self.new.below ≡ self.old.below }
-        ensures manner { self.new.manner ≡ self.old.manner }
-        ensures off { self.new.off ≡ self.old.off }
-    {
-        if let Some(calls) = self.left {
-            self.left = Some(calls.saturating_sub(1));
-        }
-    }
-
-    // The power fails, once and for all.
-    fn fail(&mut self)
-        ensures left { self.new.left ≡ None }
-        ensures below { self.new.below ≡ self.old.below }
-        ensures manner { self.new.manner ≡ self.old.manner }
-        ensures off { self.new.off ≡ true }
-    {
-        self.left = None;
-        self.off = true;
+        let Failing { below, .. } = self;
+        below
     }
 
     // What a write leaves of a sector that exists on the disk below, whose power is on.
@@ -110,32 +73,10 @@ impl<D: Spoilable> Failing<D> {
     }
 }
 
-impl<D: Spoilable> Failing<D> {
-    // A write in whose course the power fails, if the disk below could carry it out.
-    fn cut(&mut self, sector: u32, bytes: &[u8; 512]) -> Result<(), Fault>
-        requires on { self.old.off ≡ false }
-        ensures rule { Writes sector bytes.now (failing_state D.Disk.state self.old) result (failing_state D.Disk.state self.new) }
-        ensures same { failing_layers D.Disk.layers self.new ≡ failing_layers D.Disk.layers self.old }
-        ensures due { is_due self.old.left ≡ true → WriteDue D.Disk.state sector bytes.now self.old result self.new }
-        ensures refuses { Refuses self.old result self.new }
-    {
-        let mut probe = [0u8; 512];
-        match self.below.read(sector, &mut probe) {
-            Err(Fault::PowerOff(_)) => Err(Fault::PowerOff(sector)),
-            Err(Fault::NoSuchSector) => Err(Fault::NoSuchSector),
-            _ => {
-                self.leave(sector, bytes);
-                self.fail();
-                Err(Fault::PowerOff(sector))
-            }
-        }
-    }
-}
-
 impl<D: Spoilable> Disk for Failing<D> {
     ghost state = { failing_state D.Disk.state };
 
-    ghost sound = { λ f. failing-sound f.off (D.Disk.state f.below) (D.Disk.sound f.below) };
+    ghost sound = { λ f. failing-sound (off_in f.phase) (D.Disk.state f.below) (D.Disk.sound f.below) };
 
     ghost layers = { failing_layers D.Disk.layers };
 
@@ -151,12 +92,11 @@ impl<D: Spoilable> Disk for Failing<D> {
         ensures refuses { StartRefuses D.Disk.state self.old self.new }
     {
         self.below.start()?;
-        if self.due() {
-            self.fail();
+        if let Phase::Before(0) = self.phase {
+            self.phase = Phase::Off(());
             return Err(Fault::PowerOff(0));
         }
-        self.off = false;
-        self.pass();
+        self.phase = self.phase.done();
         Ok(())
     }
 
@@ -168,18 +108,19 @@ impl<D: Spoilable> Disk for Failing<D> {
         ensures rests { Rests self.old self.new }
         ensures refuses { Refuses self.old result self.new }
     {
-        if self.off {
-            return Err(Fault::PowerOff(sector));
+        match self.phase {
+            Phase::Before(0) => {
+                probe(&mut self.below, sector)?;
+                self.phase = Phase::Off(());
+                Err(Fault::PowerOff(sector))
+            }
+            Phase::Off(()) => Err(Fault::PowerOff(sector)),
+            Phase::Before(_) | Phase::On(()) => {
+                self.below.read(sector, buffer)?;
+                self.phase = self.phase.done();
+                Ok(())
+            }
         }
-        if self.due() {
-            let mut probe = [0u8; 512];
-            self.below.read(sector, &mut probe)?;
-            self.fail();
-            return Err(Fault::PowerOff(sector));
-        }
-        self.below.read(sector, buffer)?;
-        self.pass();
-        Ok(())
     }
 
     fn write(&mut self, sector: u32, bytes: &[u8; 512]) -> Result<(), Fault>
@@ -190,15 +131,20 @@ impl<D: Spoilable> Disk for Failing<D> {
         ensures rests { Rests self.old self.new }
         ensures refuses { Refuses self.old result self.new }
     {
-        if self.off {
-            return Err(Fault::PowerOff(sector));
+        match self.phase {
+            Phase::Before(0) => {
+                reach(&mut self.below, sector)?;
+                self.leave(sector, bytes);
+                self.phase = Phase::Off(());
+                Err(Fault::PowerOff(sector))
+            }
+            Phase::Off(()) => Err(Fault::PowerOff(sector)),
+            Phase::Before(_) | Phase::On(()) => {
+                self.below.write(sector, bytes)?;
+                self.phase = self.phase.done();
+                Ok(())
+            }
         }
-        if self.due() {
-            return self.cut(sector, bytes);
-        }
-        self.below.write(sector, bytes)?;
-        self.pass();
-        Ok(())
     }
 }
 

@@ -3,3 +3,5 @@
 
 pub mod failing;
 pub mod manner;
+pub mod phase;
+pub mod probe;

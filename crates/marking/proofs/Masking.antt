@@ -19,8 +19,8 @@ use Rattle.marking.specs.Marks.{names, is_lost, IsLost, unless, without, kept, h
 use Rattle.marking.specs.Phases.{lost_in, power_in, seen, again}
 use Rattle.marking.specs.MarkingSound.{length_hide}
 use Rattle.marking.specs.declared.lost.Lost.{Lost}
-use Rattle.marking.specs.declared.phase.Phase.{Phase}
-use Rattle.marking.specs.declared.phase.Phase.TheVariants.{Off, On}
+use Rattle.failing.specs.declared.phase.Phase.{Phase}
+use Rattle.failing.specs.declared.phase.Phase.TheVariants.{Off, On}
 
 is_false : (b : Bool) → (b ≡ true → ⊥) → b ≡ false
 is_false true h = absurd (h refl)
@@ -135,7 +135,7 @@ module _ (lost : Lost) where
       go (Err (Unreadable p)) h = (h.0, (h.1.0, h.1.1, at unreadable h.1.2, ap (seen (On lost)) h.1.3))
       go (Err NoSuchSector) h = (h.0, (h.1.0, omega (arith, h.1.1, length_masked d.sectors), ap (seen (On lost)) h.1.2))
 
-pub spoils-seen : (phase : Phase) (s : ℕ) (d : DiskState) (r : Answer) (e : DiskState) → Spoils s d r e → Spoils s (seen phase d) r (seen phase e)
+pub spoils-seen : (phase : Phase Lost) (s : ℕ) (d : DiskState) (r : Answer) (e : DiskState) → Spoils s d r e → Spoils s (seen phase d) r (seen phase e)
 spoils-seen phase s d (Ok _) e h =
     let lost = lost_in phase in
     (omega (arith, h.0, length_masked lost d.sectors), ap (power_in phase) h.1, ap (masked lost) h.2 ∙ masked-unreadable lost d.sectors s)

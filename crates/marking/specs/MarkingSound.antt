@@ -7,7 +7,8 @@ use Rattle.std.proofs.lemmas.Bool.{cases_eq}
 use Rattle.disk.specs.Sectors.{Sector, unreadable, holds, DiskState, Sound}
 use Rattle.marking.specs.Marks.{hide}
 use Rattle.marking.specs.Phases.{lost_in, seen}
-use Rattle.marking.specs.declared.phase.Phase.{Phase}
+use Rattle.marking.specs.declared.lost.Lost.{Lost}
+use Rattle.failing.specs.declared.phase.Phase.{Phase}
 
 pub length_hide : (mark : Option ℕ) (l : List Sector) → length (hide mark l) ≡ length l
 length_hide None l = refl
@@ -28,7 +29,7 @@ hide-holds (Some t) l s bytes within is =
     (λ ne. sym (get_or-set_other l t s unreadable unreadable ne) ∙ is)
     (cases_eq s t)
 
-pub marking-sound : (phase : Phase) (d : DiskState) → Sound d → Sound (seen phase d)
+pub marking-sound : (phase : Phase Lost) (d : DiskState) → Sound d → Sound (seen phase d)
 marking-sound phase d sound =
     let lost = lost_in phase in
     let long = length_hide lost.neighbour (hide lost.own d.sectors) ∙ length_hide lost.own d.sectors in

@@ -17,12 +17,13 @@ use Rattle.disk.specs.declared.disks.Disk.{Ghosts}
 use Rattle.disk.specs.declared.faults.Fault.TheVariants.{PowerOff, Unreadable, NoSuchSector}
 use Rattle.marking.specs.Marks.{IsLost, none, lost_by, kept}
 use Rattle.failing.specs.Manners.{leaves, number_of}
+use Rattle.failing.specs.Phases.{passed, Fails}
 use Rattle.marking.specs.Chosen.{stores}
-use Rattle.marking.specs.Phases.{seen, lessened, dark, again}
+use Rattle.marking.specs.Phases.{seen, dark, again}
 use Rattle.marking.specs.declared.lost.Lost.{Lost}
 use Rattle.failing.specs.declared.manner.Manner.{Manner}
-use Rattle.marking.specs.declared.phase.Phase.{Phase}
-use Rattle.marking.specs.declared.phase.Phase.TheVariants.{Before, Off, On}
+use Rattle.failing.specs.declared.phase.Phase.{Phase}
+use Rattle.failing.specs.declared.phase.Phase.TheVariants.{Before, Off, On}
 use Rattle.marking.specs.declared.marking.Marking.{Marking}
 
 module _ {D : Type 0} {m : Ghosts D} where
@@ -32,7 +33,7 @@ module _ {D : Type 0} {m : Ghosts D} where
   abbrev pub manner_of : Marking D m → Manner
   manner_of f = f.manner
 
-  abbrev pub phase_of : Marking D m → Phase
+  abbrev pub phase_of : Marking D m → Phase Lost
   phase_of f = f.phase
 
   abbrev pub marking_state : Marking D m → DiskState
@@ -43,7 +44,7 @@ module _ {D : Type 0} {m : Ghosts D} where
 
   -- `Does` says what the disk below did by itself.
   abbrev pub Waits : Marking D m → Answer → Marking D m → Type 0 → Type 0
-  Waits f r g Does = (calls : ℕ) → f.phase ≡ Before calls → 0 < calls → Does × (g.phase ≡ Before (lessened r calls))
+  Waits f r g Does = (calls : ℕ) → f.phase ≡ Before calls → 0 < calls → Does × (g.phase ≡ passed r (Before calls))
 
   abbrev pub Refuses : Marking D m → Answer → Marking D m → Type 0
   Refuses f (Ok _) g = Unit {0}
@@ -54,24 +55,20 @@ module _ {D : Type 0} {m : Ghosts D} where
   abbrev pub Rests : Marking D m → Marking D m → Type 0
   Rests f g = (lost : Lost) → f.phase ≡ Off lost → g ≡ f
 
-  -- The disk's own failure: it answers 9 for the sector s, and its power is off.
-  abbrev pub Fails : ℕ → Lost → Answer → Marking D m → Type 0
-  Fails s lost r g = (r ≡ Err (PowerOff s)) × (g.phase ≡ Off lost)
-
   abbrev pub StartDue : Marking D m → Answer → Marking D m → Type 0
-  StartDue f r g = f.phase ≡ Before 0 → (m.state g.below).power ≡ true → Fails 0 none r g
+  StartDue f r g = f.phase ≡ Before 0 → (m.state g.below).power ≡ true → Fails 0 none r g.phase
 
   abbrev pub ReadDue : ℕ → Marking D m → Answer → Marking D m → Type 0
   ReadDue s f r g =
       f.phase ≡ Before 0 → (m.state f.below).power ≡ true → (bytes : List ℕ) → At (m.state f.below) s (holds bytes)
       → (m.state g.below).power ≡ true
-      → Fails s none r g
+      → Fails s none r g.phase
 
   abbrev pub WriteDue : ℕ → List ℕ → Marking D m → Answer → Marking D m → Type 0
   WriteDue s bytes f r g =
       f.phase ≡ Before 0 → (m.state f.below).power ≡ true → s < count (m.state f.below)
       → (m.state g.below).power ≡ true
-      → Fails s (lost_by f.manner s) r g
+      → Fails s (lost_by f.manner s) r g.phase
       × ((marking_state g).sectors ≡ leaves f.manner s bytes (marking_state f).sectors)
       × ((m.state g.below).sectors ≡ stores f.manner s bytes (m.state f.below).sectors)
 

@@ -1,25 +1,15 @@
 // The sectors that a cut made unreadable, of which the disk below knows nothing.
 ghost use Rattle.std.specs.Prelude.{◌≡◌, ◌<◌};
-ghost use Rattle.marking.specs.Marks.{lost_by, is_lost, unless, kept};
+ghost use Rattle.marking.specs.Marks.{lost_by, is_lost, kept};
 
 use disk::faults::Fault;
 use failing::manner::Manner;
 
 /// A mark for the sector that was written, and one for its neighbour.
-#[derive(Clone, Copy)]
+#[derive(Clone, Copy, PartialEq, Eq, Debug)]
 pub struct Lost {
     own: Option<u32>,
     neighbour: Option<u32>,
-}
-
-// A mark, if it is another sector's.
-fn unless(mark: Option<u32>, sector: u32) -> Option<u32>
-    ensures { result ≡ unless mark sector }
-{
-    match mark {
-        Some(marked) if marked == sector => None,
-        _ => mark,
-    }
 }
 
 impl Lost {
@@ -65,8 +55,8 @@ impl Lost {
     {
         match answer {
             Ok(()) => Lost {
-                own: unless(self.own, sector),
-                neighbour: unless(self.neighbour, sector),
+                own: self.own.filter(|marked| *marked != sector),
+                neighbour: self.neighbour.filter(|marked| *marked != sector),
             },
             Err(_) => self,
         }

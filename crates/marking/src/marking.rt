@@ -3,24 +3,26 @@ ghost use Rattle.std.specs.Prelude.{◌≡◌, true};
 ghost use Rattle.marking.specs.Phases.{is_on};
 
 use crate::lost::Lost;
-use crate::phase::Phase;
+use crate::phase::again;
 use disk::disks::{Disk, Spoilable};
 use disk::faults::Fault;
 use failing::manner::Manner;
+use failing::phase::Phase;
+use failing::probe::{probe, reach};
 
 /// A disk that carries out a number of calls, and loses its power in the next one that it could carry out. Then it works on as the disk below does, but for the sectors that the cut made unreadable: they stay so until they are written. `Failing` makes the lost sectors unreadable on the disk below, which must be one that can be spoiled; `Marking` is over any disk and keeps marks of its own, which are gone when it is taken away.
 #[derive(Drop)]
 pub struct Marking<D: Disk> {
     below: D,
     manner: Manner,
-    phase: Phase,
+    phase: Phase<Lost>,
     ghost known: { is_on phase ≡ true → (D.state below).power ≡ true },
 }
 
 impl<D: Disk> Marking<D> {
     ghost use Rattle.std.specs.Prelude.{◌⊎◌};
     ghost use Rattle.disk.specs.Rules.{Starts, Reads, Writes};
-    ghost use Rattle.marking.specs.declared.phase.Phase.TheVariants.{Before, Off, On};
+    ghost use Rattle.failing.specs.declared.phase.Phase.TheVariants.{Before, Off, On};
     ghost use Rattle.marking.specs.Phases.{seen};
     ghost use Rattle.marking.specs.Chosen.{Stores, Misses};
     ghost use Rattle.marking.specs.OfMarking.{below_of, manner_of, phase_of, marking_state, marking_layers, ReadDue, WriteDue, Refuses, StartAgain, ReadAgain, WriteAgain};
@@ -43,12 +45,8 @@ impl<D: Disk> Marking<D> {
         ensures below { result ≡ below_of self }
         ensures state { marking_state self ≡ seen (phase_of self) (D.state result) }
     {
-        let Marking {
-            below: disk,
-            manner: _,
-            phase: _,
-        } = self;
-        disk
+        let Marking { below, .. } = self;
+        below
     }
 
     // What the chosen write does on the disk below.
@@ -60,12 +58,9 @@ impl<D: Disk> Marking<D> {
         ensures phase { self.new.phase ≡ self.old.phase }
     {
         if self.manner == Manner::NewBytes {
-            return self.below.write(sector, bytes);
-        }
-        let mut probe = [0u8; 512];
-        match self.below.read(sector, &mut probe) {
-            Err(Fault::Unreadable(_)) => Ok(()),
-            answer => answer,
+            self.below.write(sector, bytes)
+        } else {
+            reach(&mut self.below, sector)
         }
     }
 
@@ -90,8 +85,7 @@ impl<D: Disk> Marking<D> {
         ensures due { ReadDue sector self.old result self.new }
         ensures refuses { Refuses self.old result self.new }
     {
-        let mut probe = [0u8; 512];
-        self.below.read(sector, &mut probe)?;
+        probe(&mut self.below, sector)?;
         self.phase = Phase::Off(Lost::NONE);
         Err(Fault::PowerOff(sector))
     }
@@ -105,7 +99,7 @@ impl<D: Disk> Marking<D> {
         ensures again { StartAgain self.old result self.new }
     {
         let answer = self.below.start();
-        self.phase = Phase::again(answer, lost);
+        self.phase = again(answer, lost);
         answer
     }
 
@@ -121,7 +115,7 @@ impl<D: Disk> Marking<D> {
             return Err(Fault::Unreadable(sector));
         }
         let answer = self.below.read(sector, buffer);
-        self.phase = Phase::again(answer, lost);
+        self.phase = again(answer, lost);
         answer
     }
 
@@ -134,7 +128,7 @@ impl<D: Disk> Marking<D> {
         ensures again { WriteAgain sector bytes.now self.old result self.new }
     {
         let answer = self.below.write(sector, bytes);
-        self.phase = Phase::again(answer, lost.after(answer, sector));
+        self.phase = again(answer, lost.after(answer, sector));
         answer
     }
 }
@@ -168,9 +162,9 @@ impl<D: Disk> Disk for Marking<D> {
                 self.phase = Phase::Off(Lost::NONE);
                 Err(Fault::PowerOff(0))
             }
-            Phase::Before(calls) => {
+            Phase::Before(_) => {
                 self.below.start()?;
-                self.phase = Phase::Before(calls - 1);
+                self.phase = self.phase.done();
                 Ok(())
             }
             Phase::Off(lost) | Phase::On(lost) => self.start_again(lost),
@@ -188,9 +182,9 @@ impl<D: Disk> Disk for Marking<D> {
     {
         match self.phase {
             Phase::Before(0) => self.miss(sector),
-            Phase::Before(calls) => {
+            Phase::Before(_) => {
                 self.below.read(sector, buffer)?;
-                self.phase = Phase::Before(calls - 1);
+                self.phase = self.phase.done();
                 Ok(())
             }
             Phase::Off(_) => Err(Fault::PowerOff(sector)),
@@ -209,9 +203,9 @@ impl<D: Disk> Disk for Marking<D> {
     {
         match self.phase {
             Phase::Before(0) => self.cut(sector, bytes),
-            Phase::Before(calls) => {
+            Phase::Before(_) => {
                 self.below.write(sector, bytes)?;
-                self.phase = Phase::Before(calls - 1);
+                self.phase = self.phase.done();
                 Ok(())
             }
             Phase::Off(_) => Err(Fault::PowerOff(sector)),

@@ -1,29 +1,17 @@
-// The course of a marking disk: its power fails once.
+// Where a marking disk is in its course after a call of the disk below.
 ghost use Rattle.std.specs.Prelude.{◌≡◌};
 ghost use Rattle.marking.specs.Phases.{again};
 
 use crate::lost::Lost;
 use disk::faults::Fault;
+use failing::phase::Phase;
 
-/// Where it is in that course.
-#[derive(Clone, Copy)]
-pub enum Phase {
-    /// So many calls will be done before the one that loses the power.
-    Before(u32),
-    /// The power is off, and these sectors are lost.
-    Off(Lost),
-    /// The power is on again, and these sectors are still lost.
-    On(Lost),
-}
-
-impl Phase {
-    /// Where it is after a start, or after a call with the power on again: on, if the answer is not 9.
-    pub fn again(answer: Result<(), Fault>, lost: Lost) -> Phase
-        ensures { result ≡ again answer lost }
-    {
-        match answer {
-            Err(Fault::PowerOff(_)) => Phase::Off(lost),
-            _ => Phase::On(lost),
-        }
+/// The phase after a start, or after a call with the power on again: on, if the answer is not 9.
+pub fn again(answer: Result<(), Fault>, lost: Lost) -> Phase<Lost>
+    ensures { result ≡ again answer lost }
+{
+    match answer {
+        Err(Fault::PowerOff(_)) => Phase::Off(lost),
+        _ => Phase::On(lost),
     }
 }

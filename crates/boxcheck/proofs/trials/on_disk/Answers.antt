@@ -1,6 +1,6 @@
 use Rattle.std.proofs.Common.{◌≡◌, None, replicate, sym, ap, subst, arith}
 use Rattle.sheet.specs.Twins.{Both}
-use Rattle.failing.specs.OfFailing.{failing_state}
+use Rattle.failing.specs.OfFailing.{off_of, failing_state}
 use Rattle.boxcheck.proofs.Telling.{told}
 use Rattle.boxcheck.proofs.NeverOther.{never-other, both-written, both-seen}
 use Rattle.boxcheck.proofs.trials.on_disk.Goals as goal
@@ -14,7 +14,7 @@ returns g c =
     let lent : disk.below.now ≡ c.renew.new.disk = ap (λ r. r.now) c.new-disk.ensures.below in
     let whole : c.in_ok-sector.field-0 ≡ None = grind arith in
     let both = both-written old (replicate 512 0) c.renew.new.back c.in_ok-sector.field-0 (st c.args.part.now) (st c.renew.new.disk) whole c.in_ok-sector.ensures.rule in
-    let seen = both-seen old disk.off (st disk.below.now) (subst (λ p. Both 2 4 old (st p)) (sym lent) both) in
+    let seen = both-seen old (off_of disk) (st disk.below.now) (subst (λ p. Both 2 4 old (st p)) (sym lent) both) in
     let law = c.in_ok-cut.ensures.law (omega arith) old seen in
     let seen-as = failing_state (λ r. st r.now) in
     let cut = c.in_ok-cut.cut in
