@@ -7,10 +7,10 @@
 --     masked_cut             the cut rule below is the cut rule where sectors are marked
 --     writes-seen, reads-seen    the rules of a write and a read with the power on again
 --     spoils-seen            the rule of spoil
-use Rattle.std.proofs.Common.{◌≡◌, ℕ, ◌+◌, ◌-◌, Bool, true, false, ◌==◌, ◌||◌, cond, ◌⊎◌, List, length, get_or, set, Option, Some, None, Ok, Err, sym, refl, ap, ◌∙◌, inl, inr, ⊎_elim, arith}
+use Rattle.std.proofs.Common.{◌≡◌, ℕ, ◌+◌, ◌-◌, Bool, true, false, ◌==◌, cond, ◌⊎◌, List, length, get_or, set, Option, Some, None, Ok, Err, sym, refl, ap, ◌∙◌, inl, inr, ⊎_elim, arith}
 use Rattle.std.proofs.Math.Seq.{set-set, set_comm}
 use Rattle.std.proofs.lemmas.List.{get_or-set_other}
-use Rattle.std.proofs.lemmas.Bool.{cases_eq, eqb-false, eqb-true}
+use Rattle.std.proofs.lemmas.Bool.{cases_eq, eqb-false, eqb-true, false_from_ne_true, or_parts}
 use Rattle.disk.specs.Sectors.{Sector, unreadable, holds, DiskState, At}
 use Rattle.disk.specs.Faults.{Answer}
 use Rattle.disk.specs.Rules.{ReadOff, read-was-off, read-failed, Reads, Cut, cut-before, cut-new, cut-own, cut-below, cut-above, WriteOff, write-was-off, write-failed, Writes, Spoils}
@@ -21,10 +21,6 @@ use Rattle.marking.specs.MarkingSound.{length_hide}
 use Rattle.marking.specs.declared.lost.Lost.{Lost}
 use Rattle.failing.specs.declared.phase.Phase.{Phase}
 use Rattle.failing.specs.declared.phase.Phase.TheVariants.{Off, On}
-
-is_false : (b : Bool) → (b ≡ true → ⊥) → b ≡ false
-is_false true h = absurd (h refl)
-is_false false h = refl
 
 hide-other : (mark : Option ℕ) (l : List Sector) (s : ℕ) (x : Sector) → names mark s ≡ false → get_or (hide mark l) s x ≡ get_or l s x
 hide-other None l s x h = refl
@@ -55,17 +51,13 @@ hide-unless (Some t) l s x = go (t == s) refl
     go true h = sym (ap (λ i. set (set l i unreadable) s x) (eqb-true t s h) ∙ set-set l s unreadable x)
     go false h = set_comm l s t x unreadable (λ e. eqb-false t s h (sym e))
 
-neither : (a b : Bool) → (a || b) ≡ false → (a ≡ false) × (b ≡ false)
-neither true b h = cc
-neither false b h = (refl, h)
-
 module _ (lost : Lost) where
   pub length_masked : (l : List Sector) → length (masked lost l) ≡ length l
   length_masked l = length_hide lost.neighbour (hide lost.own l) ∙ length_hide lost.own l
 
   pub masked-other : (l : List Sector) (s : ℕ) (x : Sector) → is_lost lost s ≡ false → get_or (masked lost l) s x ≡ get_or l s x
   masked-other l s x h =
-      let no = neither (names lost.own s) (names lost.neighbour s) h in
+      let no = or_parts (names lost.own s) (names lost.neighbour s) h in
       hide-other lost.neighbour (hide lost.own l) s x no.1 ∙ hide-other lost.own l s x no.0
 
   pub masked-set : (l : List Sector) (s : ℕ) (x : Sector)
@@ -122,7 +114,7 @@ module _ (lost : Lost) where
           let exists = h.exists in
           record {
             exists = omega (arith, exists, length_masked d.sectors);
-            is = masked-other d.sectors s unreadable (is_false (is_lost lost s) (λ yes. free (yes, exists))) ∙ h.is;
+            is = masked-other d.sectors s unreadable (false_from_ne_true (is_lost lost s) (λ yes. free (yes, exists))) ∙ h.is;
           }
 
       off : ReadOff s d e → ReadOff s (seen (On lost) d) (seen (Off lost) e)

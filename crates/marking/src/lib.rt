@@ -3,4 +3,3 @@
 
 mod lost;
 pub mod marking;
-mod phase;

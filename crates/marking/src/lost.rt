@@ -1,9 +1,11 @@
 // The sectors that a cut made unreadable, of which the disk below knows nothing.
 ghost use Rattle.std.specs.Prelude.{◌≡◌, ◌<◌};
 ghost use Rattle.marking.specs.Marks.{lost_by, is_lost, kept};
+ghost use Rattle.marking.specs.Phases.{again};
 
 use disk::faults::Fault;
 use failing::manner::Manner;
+use failing::phase::Phase;
 
 /// A mark for the sector that was written, and one for its neighbour.
 #[derive(Clone, Copy, PartialEq, Eq, Debug)]
@@ -25,8 +27,7 @@ impl Lost {
         ensures { result ≡ lost_by manner sector }
     {
         match manner {
-            Manner::AsBefore => Lost::NONE,
-            Manner::NewBytes => Lost::NONE,
+            Manner::AsBefore | Manner::NewBytes => Lost::NONE,
             Manner::Own => Lost {
                 own: Some(sector),
                 neighbour: None,
@@ -59,6 +60,15 @@ impl Lost {
                 neighbour: self.neighbour.filter(|marked| *marked != sector),
             },
             Err(_) => self,
+        }
+    }
+    /// The phase after a start, or after a call with the power on again: on, if the answer is not 9.
+    pub fn again(self, answer: Result<(), Fault>) -> Phase<Lost>
+        ensures { result ≡ again answer self }
+    {
+        match answer {
+            Err(Fault::PowerOff(_)) => Phase::Off(self),
+            _ => Phase::On(self),
         }
     }
 }

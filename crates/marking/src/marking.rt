@@ -3,7 +3,6 @@ ghost use Rattle.std.specs.Prelude.{◌≡◌, true};
 ghost use Rattle.marking.specs.Phases.{is_on};
 
 use crate::lost::Lost;
-use crate::phase::again;
 use disk::disks::{Disk, Spoilable};
 use disk::faults::Fault;
 use failing::manner::Manner;
@@ -21,11 +20,11 @@ pub struct Marking<D: Disk> {
 
 impl<D: Disk> Marking<D> {
     ghost use Rattle.std.specs.Prelude.{◌⊎◌};
-    ghost use Rattle.disk.specs.Rules.{Starts, Reads, Writes};
+    ghost use Rattle.disk.specs.Rules.{Starts};
     ghost use Rattle.failing.specs.declared.phase.Phase.TheVariants.{Before, Off, On};
     ghost use Rattle.marking.specs.Phases.{seen};
-    ghost use Rattle.marking.specs.Chosen.{Stores, Misses};
-    ghost use Rattle.marking.specs.OfMarking.{below_of, manner_of, phase_of, marking_state, marking_layers, ReadDue, WriteDue, Refuses, StartAgain, ReadAgain, WriteAgain};
+    ghost use Rattle.marking.specs.Chosen.{Stores};
+    ghost use Rattle.marking.specs.OfMarking.{below_of, manner_of, phase_of, marking_state, marking_layers, Refuses, StartAgain};
 
     /// The disk that loses its power after `calls` calls of start, read and write that were done, in a write by `manner`.
     pub fn new(below: D, calls: u32, manner: Manner) -> Marking<D>
@@ -64,32 +63,6 @@ impl<D: Disk> Marking<D> {
         }
     }
 
-    // The chosen write.
-    fn cut(&mut self, sector: u32, bytes: &[u8; 512]) -> Result<(), Fault>
-        requires { self.old.phase ≡ Before 0 }
-        ensures rule { Writes sector bytes.now (marking_state self.old) result (marking_state self.new) }
-        ensures same { marking_layers self.new ≡ marking_layers self.old }
-        ensures due { WriteDue sector bytes.now self.old result self.new }
-        ensures refuses { Refuses self.old result self.new }
-    {
-        self.store(sector, bytes)?;
-        self.phase = Phase::Off(Lost::by(self.manner, sector));
-        Err(Fault::PowerOff(sector))
-    }
-
-    // The chosen read.
-    fn miss(&mut self, sector: u32) -> Result<(), Fault>
-        requires { self.old.phase ≡ Before 0 }
-        ensures rule { Misses sector (marking_state self.old) result (marking_state self.new) }
-        ensures same { marking_layers self.new ≡ marking_layers self.old }
-        ensures due { ReadDue sector self.old result self.new }
-        ensures refuses { Refuses self.old result self.new }
-    {
-        probe(&mut self.below, sector)?;
-        self.phase = Phase::Off(Lost::NONE);
-        Err(Fault::PowerOff(sector))
-    }
-
     // A start after the failure.
     fn start_again(&mut self, lost: Lost) -> Result<(), Fault>
         requires { (self.old.phase ≡ Off lost) ⊎ (self.old.phase ≡ On lost) }
@@ -99,36 +72,7 @@ impl<D: Disk> Marking<D> {
         ensures again { StartAgain self.old result self.new }
     {
         let answer = self.below.start();
-        self.phase = again(answer, lost);
-        answer
-    }
-
-    // A read with the power on again.
-    fn read_again(&mut self, lost: Lost, sector: u32, buffer: &mut [u8; 512]) -> Result<(), Fault>
-        requires { self.old.phase ≡ On lost }
-        ensures rule { Reads sector (marking_state self.old) buffer.old result (marking_state self.new) buffer.new }
-        ensures same { marking_layers self.new ≡ marking_layers self.old }
-        ensures refuses { Refuses self.old result self.new }
-        ensures again { ReadAgain sector self.old buffer.old result self.new buffer.new }
-    {
-        if lost.has(sector) && sector < self.below.count() {
-            return Err(Fault::Unreadable(sector));
-        }
-        let answer = self.below.read(sector, buffer);
-        self.phase = again(answer, lost);
-        answer
-    }
-
-    // A write with the power on again.
-    fn write_again(&mut self, lost: Lost, sector: u32, bytes: &[u8; 512]) -> Result<(), Fault>
-        requires { self.old.phase ≡ On lost }
-        ensures rule { Writes sector bytes.now (marking_state self.old) result (marking_state self.new) }
-        ensures same { marking_layers self.new ≡ marking_layers self.old }
-        ensures refuses { Refuses self.old result self.new }
-        ensures again { WriteAgain sector bytes.now self.old result self.new }
-    {
-        let answer = self.below.write(sector, bytes);
-        self.phase = again(answer, lost.after(answer, sector));
+        self.phase = lost.again(answer);
         answer
     }
 }
@@ -181,14 +125,25 @@ impl<D: Disk> Disk for Marking<D> {
         ensures again { ReadAgain sector self.old buffer.old result self.new buffer.new }
     {
         match self.phase {
-            Phase::Before(0) => self.miss(sector),
+            Phase::Before(0) => {
+                probe(&mut self.below, sector)?;
+                self.phase = Phase::Off(Lost::NONE);
+                Err(Fault::PowerOff(sector))
+            }
             Phase::Before(_) => {
                 self.below.read(sector, buffer)?;
                 self.phase = self.phase.done();
                 Ok(())
             }
             Phase::Off(_) => Err(Fault::PowerOff(sector)),
-            Phase::On(lost) => self.read_again(lost, sector, buffer),
+            Phase::On(lost) => {
+                if lost.has(sector) && sector < self.below.count() {
+                    return Err(Fault::Unreadable(sector));
+                }
+                let answer = self.below.read(sector, buffer);
+                self.phase = lost.again(answer);
+                answer
+            }
         }
     }
 
@@ -202,14 +157,22 @@ impl<D: Disk> Disk for Marking<D> {
         ensures again { WriteAgain sector bytes.now self.old result self.new }
     {
         match self.phase {
-            Phase::Before(0) => self.cut(sector, bytes),
+            Phase::Before(0) => {
+                self.store(sector, bytes)?;
+                self.phase = Phase::Off(Lost::by(self.manner, sector));
+                Err(Fault::PowerOff(sector))
+            }
             Phase::Before(_) => {
                 self.below.write(sector, bytes)?;
                 self.phase = self.phase.done();
                 Ok(())
             }
             Phase::Off(_) => Err(Fault::PowerOff(sector)),
-            Phase::On(lost) => self.write_again(lost, sector, bytes),
+            Phase::On(lost) => {
+                let answer = self.below.write(sector, bytes);
+                self.phase = lost.after(answer, sector).again(answer);
+                answer
+            }
         }
     }
 }
