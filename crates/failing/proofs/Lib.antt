@@ -1,2 +1,1 @@
 pub mod Probed
-pub mod Spoiled

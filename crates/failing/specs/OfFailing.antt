@@ -8,13 +8,13 @@
 --     Spoiled                                 spoiling is the disk below's own, and counts for nothing
 --     StartDue, ReadDue, WriteDue             the chosen call, where the disk below could carry it out and keeps its power: 9, power off, by the chosen manner
 use Rattle.std.specs.Prelude.{◌≡◌, ℕ, ◌<◌, Bool, true, false, List, [], ◌∷◌, Ok, Err, Option}
-use Rattle.disk.specs.Sectors.{DiskState, holds, count, At}
+use Rattle.disk.specs.Sectors.{DiskState, count}
 use Rattle.disk.specs.Layers.{Layers, over}
 use Rattle.disk.specs.Faults.{Answer}
 use Rattle.disk.specs.Rules.{Starts, Spoils}
 use Rattle.disk.specs.declared.faults.Fault.TheVariants.{PowerOff, Unreadable, NoSuchSector}
 use Rattle.failing.specs.Manners.{leaves, number_of}
-use Rattle.failing.specs.Phases.{left_in, off_in, is_due, passed, Fails}
+use Rattle.failing.specs.Phases.{left_in, off_in, is_due, passed, Fails, StartFails, ReadFails}
 use Rattle.failing.specs.FailingSound.{cut_off}
 use Rattle.failing.specs.declared.manner.Manner.{Manner}
 use Rattle.failing.specs.declared.phase.Phase.{Phase}
@@ -63,13 +63,10 @@ module _ {D : Type 0} (state : D → DiskState) where
   Spoiled s f r g = Spoils s (state f.below) r (state g.below) × (g.phase ≡ f.phase)
 
   abbrev pub StartDue : Failing D → Answer → Failing D → Type 0
-  StartDue f r g = is_due f.phase ≡ true → (state g.below).power ≡ true → Fails 0 tt r g.phase
+  StartDue f r g = StartFails tt f.phase r (state g.below) g.phase
 
   abbrev pub ReadDue : ℕ → Failing D → Answer → Failing D → Type 0
-  ReadDue s f r g =
-      is_due f.phase ≡ true → (state f.below).power ≡ true → (bytes : List ℕ) → At (state f.below) s (holds bytes)
-      → (state g.below).power ≡ true
-      → Fails s tt r g.phase
+  ReadDue s f r g = ReadFails tt s (state f.below) f.phase r (state g.below) g.phase
 
   abbrev pub WriteDue : ℕ → List ℕ → Failing D → Answer → Failing D → Type 0
   WriteDue s bytes f r g =

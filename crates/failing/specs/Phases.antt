@@ -5,7 +5,9 @@
 --     done         the phase after a call that is done
 --     passed       the phase after a call by its answer: one that is refused does not count
 --     Fails        the disk's own failure: it answers 9 for the sector s, and its power is off
-use Rattle.std.specs.Prelude.{◌≡◌, ℕ, ◌-◌, Bool, true, false, Option, Some, None, Ok, Err, ◌==◌}
+--     StartFails, ReadFails    the chosen start and the chosen read, where the disk below, d before and e after, could carry it out and keeps its power: no sector is lost
+use Rattle.std.specs.Prelude.{◌≡◌, ℕ, ◌-◌, Bool, true, false, List, Option, Some, None, Ok, Err, ◌==◌}
+use Rattle.disk.specs.Sectors.{DiskState, At, holds}
 use Rattle.disk.specs.Faults.{Answer}
 use Rattle.disk.specs.declared.faults.Fault.TheVariants.{PowerOff}
 use Rattle.failing.specs.declared.phase.Phase.{Phase}
@@ -37,3 +39,13 @@ passed (Err _) phase = phase
 
 abbrev pub Fails : {L : Type 0} → ℕ → L → Answer → Phase L → Type 0
 Fails s lost r phase = (r ≡ Err (PowerOff s)) × (phase ≡ Off lost)
+
+module _ {L : Type 0} (none : L) where
+  abbrev pub StartFails : Phase L → Answer → DiskState → Phase L → Type 0
+  StartFails p r e q = is_due p ≡ true → e.power ≡ true → Fails 0 none r q
+
+  abbrev pub ReadFails : ℕ → DiskState → Phase L → Answer → DiskState → Phase L → Type 0
+  ReadFails s d p r e q =
+      is_due p ≡ true → d.power ≡ true → (bytes : List ℕ) → At d s (holds bytes)
+      → e.power ≡ true
+      → Fails s none r q

@@ -9,7 +9,7 @@
 --     ReadAgain, WriteAgain            with the power on again a lost sector is not read, and every other call is the disk below's own
 --     Spoiled                          spoiling is the disk below's own, and counts for nothing
 use Rattle.std.specs.Prelude.{◌≡◌, ℕ, ◌<◌, true, false, List, [], ◌∷◌, Ok, Err, ◌⊎◌}
-use Rattle.disk.specs.Sectors.{DiskState, holds, count, At}
+use Rattle.disk.specs.Sectors.{DiskState, count}
 use Rattle.disk.specs.Layers.{Layers, over}
 use Rattle.disk.specs.Faults.{Answer}
 use Rattle.disk.specs.Rules.{Starts, Reads, Writes, Spoils}
@@ -17,7 +17,7 @@ use Rattle.disk.specs.declared.disks.Disk.{Ghosts}
 use Rattle.disk.specs.declared.faults.Fault.TheVariants.{PowerOff, Unreadable, NoSuchSector}
 use Rattle.marking.specs.Marks.{IsLost, none, lost_by, kept}
 use Rattle.failing.specs.Manners.{leaves, number_of}
-use Rattle.failing.specs.Phases.{passed, Fails}
+use Rattle.failing.specs.Phases.{passed, Fails, StartFails, ReadFails}
 use Rattle.marking.specs.Chosen.{stores}
 use Rattle.marking.specs.Phases.{seen, dark, again}
 use Rattle.marking.specs.declared.lost.Lost.{Lost}
@@ -56,13 +56,10 @@ module _ {D : Type 0} {m : Ghosts D} where
   Rests f g = (lost : Lost) → f.phase ≡ Off lost → g ≡ f
 
   abbrev pub StartDue : Marking D m → Answer → Marking D m → Type 0
-  StartDue f r g = f.phase ≡ Before 0 → (m.state g.below).power ≡ true → Fails 0 none r g.phase
+  StartDue f r g = StartFails none f.phase r (m.state g.below) g.phase
 
   abbrev pub ReadDue : ℕ → Marking D m → Answer → Marking D m → Type 0
-  ReadDue s f r g =
-      f.phase ≡ Before 0 → (m.state f.below).power ≡ true → (bytes : List ℕ) → At (m.state f.below) s (holds bytes)
-      → (m.state g.below).power ≡ true
-      → Fails s none r g.phase
+  ReadDue s f r g = ReadFails none s (m.state f.below) f.phase r (m.state g.below) g.phase
 
   abbrev pub WriteDue : ℕ → List ℕ → Marking D m → Answer → Marking D m → Type 0
   WriteDue s bytes f r g =
