@@ -16,7 +16,8 @@ use Rattle.disk.specs.Faults.{Answer}
 use Rattle.disk.specs.Rules.{ReadOff, read-was-off, read-failed, Reads, Cut, cut-before, cut-new, cut-own, cut-below, cut-above, WriteOff, write-was-off, write-failed, Writes, Spoils}
 use Rattle.disk.specs.declared.faults.Fault.TheVariants.{PowerOff, Unreadable, NoSuchSector}
 use Rattle.marking.specs.Marks.{names, is_lost, IsLost, unless, without, kept, hide, masked}
-use Rattle.marking.specs.Phases.{lost_in, power_in, seen, again}
+use Rattle.marking.specs.Phases.{lost_in, seen, again}
+use Rattle.failing.specs.Phases.{off_in}
 use Rattle.marking.specs.MarkingSound.{length_hide}
 use Rattle.marking.specs.declared.lost.Lost.{Lost}
 use Rattle.failing.specs.declared.phase.Phase.{Phase}
@@ -130,7 +131,7 @@ module _ (lost : Lost) where
 pub spoils-seen : (phase : Phase Lost) (s : ℕ) (d : DiskState) (r : Answer) (e : DiskState) → Spoils s d r e → Spoils s (seen phase d) r (seen phase e)
 spoils-seen phase s d (Ok _) e h =
     let lost = lost_in phase in
-    (omega (arith, h.0, length_masked lost d.sectors), ap (power_in phase) h.1, ap (masked lost) h.2 ∙ masked-unreadable lost d.sectors s)
+    (omega (arith, h.0, length_masked lost d.sectors), ap (λ p. cond (off_in phase) false p) h.1, ap (masked lost) h.2 ∙ masked-unreadable lost d.sectors s)
 spoils-seen phase s d (Err (PowerOff p)) e h = h
 spoils-seen phase s d (Err (Unreadable p)) e h = h
 spoils-seen phase s d (Err NoSuchSector) e h = (omega (arith, h.0, length_masked (lost_in phase) d.sectors), ap (seen phase) h.1)

@@ -6,14 +6,11 @@ use Rattle.disk.specs.Sectors.{Sector, holds, DiskState, count}
 use Rattle.disk.specs.Faults.{Answer}
 use Rattle.disk.specs.Rules.{Writes}
 use Rattle.failing.specs.declared.manner.Manner.{Manner}
-use Rattle.failing.specs.declared.manner.Manner.TheVariants.{AsBefore, NewBytes, Own, OwnAndBelow, OwnAndAbove}
+use Rattle.failing.specs.declared.manner.Manner.TheVariants.{NewBytes}
 
 abbrev pub stores : Manner → ℕ → List ℕ → List Sector → List Sector
-stores AsBefore s bytes l = l
 stores NewBytes s bytes l = slice_set l s (holds bytes)
-stores Own s bytes l = l
-stores OwnAndBelow s bytes l = l
-stores OwnAndAbove s bytes l = l
+stores _ s bytes l = l
 
 abbrev pub Stores : Manner → ℕ → List ℕ → DiskState → Answer → DiskState → Type 0
 Stores manner s bytes d (Ok _) e = (d.power ≡ true) × (s < count d) × (e.power ≡ true) × (e.sectors ≡ stores manner s bytes d.sectors)

@@ -1,13 +1,15 @@
 -- The course of a marking disk.
 --     lost_in          the sectors that are lost in a phase
 --     is_on            the power was put on again
---     power_in, seen   the power of the disk below, and all of it, as it is seen in a phase
+--     seen             the disk below as it is seen in a phase
 --     dark             the phase after a call in which the disk below has no power
 --     again            the phase after a call with the power on again
 use Rattle.std.specs.Prelude.{Bool, true, false, Ok, Err}
 use Rattle.disk.specs.Sectors.{DiskState}
 use Rattle.disk.specs.Faults.{Answer}
 use Rattle.disk.specs.declared.faults.Fault.TheVariants.{PowerOff, Unreadable, NoSuchSector}
+use Rattle.failing.specs.Phases.{off_in}
+use Rattle.failing.specs.FailingSound.{cut_off}
 use Rattle.marking.specs.Marks.{none, masked}
 use Rattle.marking.specs.declared.lost.Lost.{Lost}
 use Rattle.failing.specs.declared.phase.Phase.{Phase}
@@ -23,13 +25,8 @@ is_on (Before calls) = false
 is_on (Off lost) = false
 is_on (On lost) = true
 
-abbrev pub power_in : Phase Lost → Bool → Bool
-power_in (Before calls) power = power
-power_in (Off lost) power = false
-power_in (On lost) power = power
-
 abbrev pub seen : Phase Lost → DiskState → DiskState
-seen phase d = record { power = power_in phase d.power; sectors = masked (lost_in phase) d.sectors }
+seen phase d = record (cut_off (off_in phase) d) { sectors = masked (lost_in phase) d.sectors }
 
 abbrev pub dark : Phase Lost → Phase Lost
 dark (Before calls) = Before calls

@@ -8,6 +8,7 @@ use failing::manner::Manner;
 use failing::phase::Phase;
 
 /// A mark for the sector that was written, and one for its neighbour.
+// No array of marks: there are two at most, each has a name in the clauses, and `has` and `after` would be no shorter.
 #[derive(Clone, Copy, PartialEq, Eq, Debug)]
 pub struct Lost {
     own: Option<u32>,
@@ -22,25 +23,18 @@ impl Lost {
     };
 
     /// The sectors that a cut by `manner` makes unreadable in a write of `sector`.
+    // The sector is below 65,536, since no `u32` is the mark above the highest one.
     pub fn by(manner: Manner, sector: u32) -> Lost
         requires { sector < 65536 }
         ensures { result ≡ lost_by manner sector }
     {
-        match manner {
-            Manner::AsBefore | Manner::NewBytes => Lost::NONE,
-            Manner::Own => Lost {
-                own: Some(sector),
-                neighbour: None,
-            },
-            Manner::OwnAndBelow => Lost {
-                own: Some(sector),
-                neighbour: Some(sector.saturating_sub(1)),
-            },
-            Manner::OwnAndAbove => Lost {
-                own: Some(sector),
-                neighbour: Some(sector + 1),
-            },
-        }
+        let (own, neighbour) = match manner {
+            Manner::AsBefore | Manner::NewBytes => (None, None),
+            Manner::Own => (Some(sector), None),
+            Manner::OwnAndBelow => (Some(sector), Some(sector.saturating_sub(1))),
+            Manner::OwnAndAbove => (Some(sector), Some(sector + 1)),
+        };
+        Lost { own, neighbour }
     }
 
     /// Whether a sector is marked.
