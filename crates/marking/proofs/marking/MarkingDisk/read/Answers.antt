@@ -1,4 +1,4 @@
-use Rattle.std.proofs.Common.{false, refl, ap, arith}
+use Rattle.std.proofs.Common.{refl, ap, arith}
 use Rattle.std.proofs.lemmas.Grind.{common_steps}
 use Rattle.failing.proofs.Probed.{probe-fails}
 use Rattle.marking.specs.Marks.{IsLost}
@@ -10,8 +10,7 @@ pub returns-in_ok-probe-in-Before-eq0-clause-rule :
     goal.returns-in_ok-probe-in-Before-eq0-clause-rule
 returns-in_ok-probe-in-Before-eq0-clause-rule g c =
     let st = g.D.Disk.state in
-    let mid = st c.probe.new.disk in
-    rw c.in-Before-eq0.is (refl, (refl, probe-fails c.args.sector (st c.args.self.now.below) mid (record mid { power = false }) c.in_ok-probe-in-Before-eq0.ensures.rule refl refl))
+    rw c.in-Before-eq0.is (refl, (refl, probe-fails c.args.sector (st c.args.self.now.below) (st c.probe.new.disk) c.in_ok-probe-in-Before-eq0.ensures.rule))
 
 pub returns-else-has-clause-rule : goal.returns-else-has-clause-rule
 returns-else-has-clause-rule g c =
