@@ -1,3 +1,2 @@
 pub mod LookUps
 pub mod Sorting
-pub mod Turns

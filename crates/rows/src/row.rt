@@ -1,34 +1,128 @@
-// An ordered row over records that are lent to it.
-ghost use Rattle.std.specs.Prelude.{◌≡◌, ◌+◌, ◌-◌, ◌<◌, ◌≤◌, map, length, take};
+// A row of records in the order of their keys, and the same calls on records that are lent.
+ghost use Rattle.std.specs.Prelude.{◌≡◌, ◌+◌, ◌-◌, ◌<◌, ◌≤◌, List, [], map, length, take, slice_set};
 ghost use Rattle.rows.specs.Lists.{up_to, put_at, without};
 
 use crate::keyed::Keyed;
+use std::marker::Model;
 
-/// Records in the order of their keys: the first `count` of those that are lent. `docs/CALLS.md` says what its calls do.
+/// At most `N` records, in the order of their keys. `docs/CALLS.md` says what its calls do.
 #[derive(Drop)]
-pub struct Row<'a, R: Keyed> {
-    pub records: &'a mut [R],
-    pub count: usize,
+pub struct Row<R, const N: usize> {
+    records: [R; N],
+    count: usize,
 }
 
-// How many records from the first on have a key that is not above `wanted`.
-fn find<R: Keyed>(records: &mut [R], count: usize, wanted: &[u8; 22]) -> usize
-    requires { count ≤ length records.old }
-    ensures bound { result ≤ count }
-    ensures same { records.new ≡ records.old }
-    ensures value { result ≡ up_to R.before wanted.now (map R.key (take count records.old)) }
-{
-    for i in 0..count {
-        if R::comes_before(wanted, &records[i].key()) {
-            return i;
+// Clauses see the records of the row, and not those behind them.
+impl<R, const N: usize> Model for Row<R, N> {
+    ghost Value = { List R };
+
+    ghost view = { λ r. take r.count r.records };
+
+    ghost invariant = { λ r. r.count ≤ N };
+}
+
+impl<R, const N: usize> Row<R, N> {
+    /// The first `count` of these records.
+    pub fn of(records: [R; N], count: usize) -> Row<R, N>
+        requires { count ≤ N }
+        ensures { result ≡ take count records }
+    {
+        Row { records, count }
+    }
+
+    /// How many records there are.
+    pub fn len(&self) -> usize
+        ensures value { result ≡ length self.now }
+        ensures within { length self.now ≤ N }
+    {
+        self.as_slice().len()
+    }
+
+    /// The records.
+    pub fn as_slice(&self) -> &[R]
+        ensures records { result.now ≡ self.now }
+        ensures within { length self.now ≤ N }
+    {
+        &self.records[..self.count]
+    }
+}
+
+impl<R: Copy, const N: usize> Row<R, N> {
+    /// A row without records.
+    pub fn new() -> Row<R, N>
+    where
+        R: Default,
+        ensures { result ≡ [] }
+    {
+        Row {
+            records: [R::default(); N],
+            count: 0,
         }
     }
-    count
+
+    /// Puts a record in at a place; those from there on move up by one.
+    pub fn put_in(&mut self, at: usize, new: R)
+        requires room { length self.old < N }
+        requires inside { at ≤ length self.old }
+        ensures { self.new ≡ put_at self.old at new }
+    {
+        put_into(&mut self.records, self.count, at, new);
+        self.count += 1;
+    }
+
+    /// Takes the record at a place out; those behind it move down by one.
+    pub fn take_out(&mut self, at: usize)
+        requires { at < length self.old }
+        ensures { self.new ≡ without self.old at }
+    {
+        take_from(&mut self.records, self.count, at);
+        self.count -= 1;
+    }
+
+    /// Puts another record in the place of one.
+    pub fn replace(&mut self, at: usize, new: R)
+        requires { at < length self.old }
+        ensures { self.new ≡ slice_set self.old at new }
+    {
+        let among = &mut self.records[..self.count];
+        among[at] = new;
+    }
 }
 
-// Puts a record in at a place; those from there on move up by one.
-fn shift_in<R: Copy>(records: &mut [R], count: usize, at: usize, new: R)
-    requires within { count < length records.old }
+impl<R: Keyed, const N: usize> Row<R, N> {
+    /// How many records have a key that is not above `wanted`: the last of them is where `wanted` would be found, and the next one is the lowest above it.
+    pub fn find(&self, wanted: &[u8; 22]) -> usize
+        ensures bound { result ≤ length self.now }
+        ensures value { result ≡ up_to R.before wanted.now (map R.key self.now) }
+    {
+        place_among(self.as_slice(), wanted)
+    }
+}
+
+// How many of these records, from the first on, have a key that is not above `wanted`.
+fn place_among<R: Keyed>(records: &[R], wanted: &[u8; 22]) -> usize
+    ensures bound { result ≤ length records.now }
+    ensures value { result ≡ up_to R.before wanted.now (map R.key records.now) }
+{
+    records
+        .iter()
+        .position(|r| R::comes_before(wanted, &r.key()))
+        .unwrap_or(records.len())
+}
+
+/// How many of the first `count` records have a key that is not above `wanted`, from the first on.
+pub fn place_in<R: Keyed>(records: &mut [R], count: usize, wanted: &[u8; 22]) -> usize
+    requires { count ≤ length records.old }
+    ensures bound { result ≤ count }
+    ensures value { result ≡ up_to R.before wanted.now (map R.key (take count records.old)) }
+    ensures same { records.new ≡ records.old }
+{
+    place_among(&records[..count], wanted)
+}
+
+/// Puts a record in at a place among the first `count`; those from there on move up by one.
+pub fn put_into<R: Copy>(records: &mut [R], count: usize, at: usize, new: R)
+    requires room { count < length records.old }
     requires inside { at ≤ count }
     ensures { take (count + 1) records.new ≡ put_at (take count records.old) at new }
 {
@@ -36,85 +130,11 @@ fn shift_in<R: Copy>(records: &mut [R], count: usize, at: usize, new: R)
     records[at] = new;
 }
 
-// Takes the record at a place out; those behind it move down by one.
-fn shift_out<R: Copy>(records: &mut [R], count: usize, at: usize)
+/// Takes the record at a place among the first `count` out; those behind it move down by one.
+pub fn take_from<R: Copy>(records: &mut [R], count: usize, at: usize)
     requires within { count ≤ length records.old }
     requires inside { at < count }
     ensures { take (count - 1) records.new ≡ without (take count records.old) at }
 {
     records[at..count].rotate_left(1);
-}
-
-impl<'a, R: Keyed + Copy> Row<'a, R> {
-    /// How many records have a key that is not above `wanted`: the last of them is where `wanted` would be found, and the next one is the lowest above it. Nothing changes.
-    pub fn find(&mut self, wanted: &[u8; 22]) -> usize
-        requires { self.old.count ≤ length self.old.records.now }
-        ensures bound { result ≤ self.old.count }
-        ensures value { result ≡ up_to R.Keyed.before wanted.now (map R.Keyed.key (take self.old.count self.old.records.now)) }
-        ensures same { self.new.records.now ≡ self.old.records.now }
-        ensures count { self.new.count ≡ self.old.count }
-        ensures named { self.new.records.ghost_name ≡ self.old.records.ghost_name }
-    {
-        let count = self.count;
-        find(self.records, count, wanted)
-    }
-
-    /// Puts a record in at a place.
-    pub fn put_in(&mut self, at: usize, new: R)
-        requires room { self.old.count < length self.old.records.now }
-        requires inside { at ≤ self.old.count }
-        ensures count { self.new.count ≡ self.old.count + 1 }
-        ensures held { take (self.old.count + 1) self.new.records.now ≡ put_at (take self.old.count self.old.records.now) at new }
-        ensures long { length self.new.records.now ≡ length self.old.records.now }
-        ensures named { self.new.records.ghost_name ≡ self.old.records.ghost_name }
-    {
-        let count = self.count;
-        shift_in(self.records, count, at, new);
-        self.count = count + 1;
-    }
-
-    /// Takes the record at a place out.
-    pub fn take_out(&mut self, at: usize)
-        requires within { self.old.count ≤ length self.old.records.now }
-        requires inside { at < self.old.count }
-        ensures count { self.new.count + 1 ≡ self.old.count }
-        ensures held { take (self.old.count - 1) self.new.records.now ≡ without (take self.old.count self.old.records.now) at }
-        ensures long { length self.new.records.now ≡ length self.old.records.now }
-        ensures named { self.new.records.ghost_name ≡ self.old.records.ghost_name }
-    {
-        let count = self.count;
-        shift_out(self.records, count, at);
-        self.count = count - 1;
-    }
-}
-
-/// The same as `find` of a row over these records.
-pub fn place_in<R: Keyed + Copy>(records: &mut [R], count: usize, wanted: &[u8; 22]) -> usize
-    requires { count ≤ length records.old }
-    ensures bound { result ≤ count }
-    ensures value { result ≡ up_to R.Keyed.before wanted.now (map R.Keyed.key (take count records.old)) }
-    ensures same { records.new ≡ records.old }
-{
-    let mut row = Row { records, count };
-    row.find(wanted)
-}
-
-/// The same as `put_in` of a row over these records.
-pub fn put_into<R: Keyed + Copy>(records: &mut [R], count: usize, at: usize, new: R)
-    requires room { count < length records.old }
-    requires inside { at ≤ count }
-    ensures { take (count + 1) records.new ≡ put_at (take count records.old) at new }
-{
-    let mut row = Row { records, count };
-    row.put_in(at, new);
-}
-
-/// The same as `take_out` of a row over these records.
-pub fn take_from<R: Keyed + Copy>(records: &mut [R], count: usize, at: usize)
-    requires within { count ≤ length records.old }
-    requires inside { at < count }
-    ensures { take (count - 1) records.new ≡ without (take count records.old) at }
-{
-    let mut row = Row { records, count };
-    row.take_out(at);
 }

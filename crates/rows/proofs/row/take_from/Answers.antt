@@ -1,6 +1,6 @@
 use Rattle.std.proofs.Common.{arith, rules}
 use Rattle.std.proofs.lemmas.List.{same_lists, places}
-use Rattle.rows.proofs.row.shift_out.Goals as goal
+use Rattle.rows.proofs.row.take_from.Goals as goal
 
 pub returns : goal.returns
 returns g c = same_lists _ _ (search (rules, places)) (λ k d h. grind (arith, places))
