@@ -3,14 +3,15 @@ ghost use Rattle.std.specs.Prelude.{◌≡◌, ◌+◌, ◌*◌, ◌<◌, ◌≤
 ghost use Rattle.std.specs.Bool.{Decides};
 ghost use Rattle.std.specs.List.{flat_map};
 ghost use Rattle.layout.specs.Padded.{Decodes};
-ghost use Rattle.pages.specs.Bytes.{values, page_of, records_of};
-ghost use Rattle.pages.specs.Decoding.{Few, told, Decoded};
+ghost use Rattle.pages.specs.Bytes.{Room, Holds, values, page_of, records_of};
+ghost use Rattle.pages.specs.Decoding.{Few, Decoded};
 
 use crate::stored::Stored;
+use rows::row::Row;
 
 // Writes the records one after another, from byte 32 on.
 fn write_all<R: Stored>(records: &[R], page: &mut [u8; 512])
-    requires { 32 + R.wide * length records.now ≤ 512 }
+    requires { Room R.wide (length records.now) }
     ensures { page.new ≡ take 32 page.old ++ flat_map R.bytes records.now ++ drop (32 + R.wide * length records.now) page.old }
 {
     let w = R::width();
@@ -22,7 +23,7 @@ fn write_all<R: Stored>(records: &[R], page: &mut [u8; 512])
 
 // Reads as many records as there are places, from byte 32 on.
 fn read_all<R: Stored + Copy>(page: &[u8; 512], out: &mut [R])
-    requires { 32 + R.wide * length out.old ≤ 512 }
+    requires { Room R.wide (length out.old) }
     ensures { out.new ≡ values R.value R.wide (length out.old) (drop 32 page.now) }
 {
     let w = R::width();
@@ -34,7 +35,7 @@ fn read_all<R: Stored + Copy>(page: &[u8; 512], out: &mut [R])
 
 /// Makes a page of records: N and a letter, their count, and from byte 32 on the records.
 pub fn write_page<R: Stored>(letter: u8, records: &[R], page: &mut [u8; 512])
-    requires { (32 + R.wide * length records.now ≤ 512) × (length records.now < 256) }
+    requires { Holds R.wide (length records.now) }
     ensures { page.new ≡ page_of R.bytes letter records.now }
 {
     *page = [0; 512];
@@ -46,7 +47,7 @@ pub fn write_page<R: Stored>(letter: u8, records: &[R], page: &mut [u8; 512])
 
 /// Reads the records of a page, at most so many, and says how many there are.
 pub fn read_page<R: Stored + Copy>(page: &[u8; 512], most: usize, out: &mut [R]) -> usize
-    requires { (32 + R.wide * most ≤ 512) × (most ≤ length out.old) }
+    requires { Room R.wide most × (most ≤ length out.old) }
     ensures count { result ≡ min (slice_index page.now 2) most }
     ensures held { take result out.new ≡ records_of R.value R.wide most page.now }
     ensures rest { drop result out.new ≡ drop result out.old }
@@ -58,7 +59,7 @@ pub fn read_page<R: Stored + Copy>(page: &[u8; 512], most: usize, out: &mut [R])
 
 /// Whether a page is just what these records make under a letter.
 pub fn formed<R: Stored>(letter: u8, records: &[R], page: &[u8; 512]) -> bool
-    requires { (32 + R.wide * length records.now ≤ 512) × (length records.now < 256) }
+    requires { Holds R.wide (length records.now) }
     ensures { Decides result (page.now ≡ page_of R.bytes letter records.now) }
 {
     let mut made = [0; 512];
@@ -66,16 +67,32 @@ pub fn formed<R: Stored>(letter: u8, records: &[R], page: &[u8; 512]) -> bool
     *page == made
 }
 
-/// Reads the records of a page, as many as there are places, and says how many there are, if the page is just what they make under a letter.
-pub fn decode_page<R: Stored + Copy>(letter: u8, page: &[u8; 512], out: &mut [R]) -> Option<usize>
-    requires { (32 + R.wide * length out.old ≤ 512) × (length out.old < 256) }
-    ensures value { Decoded R.fit R.bytes R.value R.wide letter (length out.old) page.now out.new result }
-    ensures law { Decodes (Few R.fit (length out.old)) (page_of R.bytes letter) page.now (told out.new result) }
-    ensures read { out.new ≡ records_of R.value R.wide (length out.old) page.now ++ drop (min (slice_index page.now 2) (length out.old)) out.old }
+/// The records of a page, at most so many.
+pub fn read_row<R: Stored + Copy + Default, const N: usize>(
+    page: &[u8; 512],
+    most: usize,
+) -> Row<R, N>
+    requires room { Room R.wide most }
+    requires within { most ≤ N }
+    ensures { result ≡ records_of R.value R.wide most page.now }
 {
-    let n = read_page(page, out.len(), out);
-    if formed(letter, &out[0..n], page) {
-        Some(n)
+    let mut records = [R::default(); N];
+    let count = read_page(page, most, &mut records);
+    Row::of(records, count)
+}
+
+/// The records of a page, if it is just what they make under a letter.
+pub fn decode_page<R: Stored + Copy + Default, const N: usize>(
+    letter: u8,
+    page: &[u8; 512],
+) -> Option<Row<R, N>>
+    requires { Holds R.wide N }
+    ensures value { Decoded R.fit R.bytes R.value R.wide letter N page.now result }
+    ensures law { Decodes (Few R.fit N) (page_of R.bytes letter) page.now result }
+{
+    let row = read_row::<R, N>(page, N);
+    if formed(letter, row.as_slice(), page) {
+        Some(row)
     } else {
         None
     }

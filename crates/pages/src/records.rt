@@ -20,14 +20,14 @@ fn put_bytes(buf: &mut [u8], at: usize, bytes: &[u8]) -> usize
 }
 
 /// An item of the root: the keys from its separator on, up to that of the next item, belong to its page.
-#[derive(Clone, Copy)]
+#[derive(Clone, Copy, Debug, Default, PartialEq, Eq)]
 pub struct Item {
     pub separator: [u8; 22],
     pub page: u16,
 }
 
 /// An entry of a leaf: a key, and the start and the length that it gives.
-#[derive(Clone, Copy)]
+#[derive(Clone, Copy, Debug, Default, PartialEq, Eq)]
 pub struct Entry {
     pub key: [u8; 22],
     pub start: u32,
