@@ -1,65 +1,79 @@
 // How many records a page may say that it has.
-use crate::kinds::{NO_ENTRY, NO_ITEM, entries_on, items_on};
+use crate::kinds::{entries_on, items_on};
 use pages::page::write_page;
 use pages::records::{Entry, Item};
 use std::process::Abort;
 
-// A leaf of 15 entries.
-fn full_leaf() -> [u8; 512] {
-    let mut page = [0; 512];
-    let entry = Entry {
+// An entry of zeros but for its length.
+fn entry() -> Entry {
+    Entry {
         length: 40,
-        ..NO_ENTRY
-    };
-    write_page(b'L', &[entry; 15], &mut page);
-    page
+        ..Entry::default()
+    }
 }
 
-// A root of 20 items.
-fn full_root() -> [u8; 512] {
-    let mut page = [0; 512];
-    let item = Item { page: 1, ..NO_ITEM };
-    write_page(b'R', &[item; 20], &mut page);
-    page
+// Checks how many records are on a page once its byte 2 is each of these counts.
+fn tells<F: Fn(&[u8; 512]) -> Option<usize>>(
+    rt: &impl Abort,
+    page: &[u8; 512],
+    records_on: F,
+    counts: &[(u8, Option<usize>)],
+)
+    requires { F.IsAlwaysCallable records_on }
+{
+    let mut page = *page;
+    for (count, told) in counts {
+        page[2] = *count;
+        assert_eq!(rt; records_on(&page), *told, "{}", count);
+    }
 }
 
 #[test]
 fn of_leaves(rt: HostRuntime) {
-    let mut page = full_leaf();
-    assert_eq!(rt; entries_on(&page), Some(15));
-    for count in [0, 1, 14, 16, 20, 255] {
-        page[2] = count;
-        assert_eq!(rt; entries_on(&page), None, "{}", count);
-    }
+    let mut page = [0; 512];
+    write_page(b'L', &[entry(); 15], &mut page);
+    let counts = [
+        (15, Some(15)),
+        (0, None),
+        (1, None),
+        (14, None),
+        (16, None),
+        (20, None),
+        (255, None),
+    ];
+    tells(&rt, &page, entries_on, &counts);
 }
 
 #[test]
 fn of_roots(rt: HostRuntime) {
-    let mut page = full_root();
-    assert_eq!(rt; items_on(&page), Some(20));
-    for count in [0, 1, 19, 21, 255] {
-        page[2] = count;
-        assert_eq!(rt; items_on(&page), None, "{}", count);
-    }
+    let mut page = [0; 512];
+    let item = Item {
+        page: 1,
+        ..Item::default()
+    };
+    write_page(b'R', &[item; 20], &mut page);
+    let counts = [
+        (20, Some(20)),
+        (0, None),
+        (1, None),
+        (19, None),
+        (21, None),
+        (255, None),
+    ];
+    tells(&rt, &page, items_on, &counts);
 }
 
 // Behind the last record a leaf has zeros, and these are records too: only a register tells that they have no keys.
 #[test]
 fn of_zeros(rt: HostRuntime) {
     let mut page = [0; 512];
-    let entry = Entry {
-        length: 40,
-        ..NO_ENTRY
-    };
-    write_page(b'L', &[entry; 2], &mut page);
-    for (count, told) in [
+    write_page(b'L', &[entry(); 2], &mut page);
+    let counts = [
         (1, None),
         (2, Some(2)),
         (3, Some(3)),
         (15, Some(15)),
         (16, None),
-    ] {
-        page[2] = count;
-        assert_eq!(rt; entries_on(&page), told, "{}", count);
-    }
+    ];
+    tells(&rt, &page, entries_on, &counts);
 }

@@ -3,25 +3,14 @@ use pages::page::decode_page;
 use pages::records::{Entry, Item};
 use std::process::Abort;
 
-pub const NO_ITEM: Item = Item {
-    separator: [0; 22],
-    page: 0,
-};
-
-pub const NO_ENTRY: Entry = Entry {
-    key: [0; 22],
-    start: 0,
-    length: 0,
-};
-
 /// How many items a page is the root of, if it is one.
 pub fn items_on(page: &[u8; 512]) -> Option<usize> {
-    decode_page(b'R', page, &mut [NO_ITEM; 20])
+    decode_page::<Item, 20>(b'R', page).map(|items| items.len())
 }
 
 /// How many entries a page is the leaf of, if it is one.
 pub fn entries_on(page: &[u8; 512]) -> Option<usize> {
-    decode_page(b'L', page, &mut [NO_ENTRY; 15])
+    decode_page::<Entry, 15>(b'L', page).map(|entries| entries.len())
 }
 
 /// Puts bytes on a page from a place on.
@@ -31,12 +20,6 @@ pub fn put(rt: &impl Abort, page: &mut [u8; 512], at: usize, bytes: &[u8]) {
     page[at..at + bytes.len()].copy_from_slice(bytes);
 }
 
-// Checks that a page is of neither kind.
-fn is_neither(rt: &impl Abort, page: &[u8; 512], i: usize) {
-    assert!(rt; items_on(page).is_none(), "{}", i);
-    assert!(rt; entries_on(page).is_none(), "{}", i);
-}
-
 /// Checks that no byte of `from..to` may be another: whichever of its bits is turned over, the page is of neither kind.
 pub fn are_fixed(rt: &impl Abort, page: &[u8; 512], from: usize, to: usize) {
     for i in from..to {
@@ -44,7 +27,8 @@ pub fn are_fixed(rt: &impl Abort, page: &[u8; 512], from: usize, to: usize) {
         for bit in [1u8, 2, 4, 8, 16, 32, 64, 128] {
             let mut other = *page;
             other[i] ^= bit;
-            is_neither(rt, &other, i);
+            assert_eq!(rt; items_on(&other), None, "{}", i);
+            assert_eq!(rt; entries_on(&other), None, "{}", i);
         }
     }
 }

@@ -1,5 +1,5 @@
 // A worked leaf of two entries: its bytes both ways, and which of them have no use.
-use crate::kinds::{NO_ENTRY, are_fixed, entries_on, items_on, put};
+use crate::kinds::{are_fixed, entries_on, items_on, put};
 use pages::page::{decode_page, formed, write_page};
 use pages::records::Entry;
 use std::process::Abort;
@@ -35,21 +35,13 @@ fn leaf(rt: &impl Abort) -> [u8; 512] {
     page
 }
 
-// Checks the parts of an entry.
-fn is_entry(rt: &impl Abort, entry: &Entry, other: &Entry) {
-    assert!(rt; entry.key == other.key);
-    assert_eq!(rt; (entry.start, entry.length), (other.start, other.length));
-}
-
 #[test]
 fn both_ways(rt: HostRuntime) {
     let mut page = [255; 512];
     write_page(b'L', &[FIRST, SECOND], &mut page);
     assert!(rt; page == leaf(&rt));
-    let mut out = [NO_ENTRY; 15];
-    assert_eq!(rt; decode_page(b'L', &page, &mut out), Some(2));
-    is_entry(&rt, &out[0], &FIRST);
-    is_entry(&rt, &out[1], &SECOND);
+    let entries = decode_page::<Entry, 15>(b'L', &page);
+    assert!(rt; entries.is_some_and(|entries| entries.as_slice() == [FIRST, SECOND].as_slice()));
 }
 
 #[test]
@@ -58,7 +50,7 @@ fn made_of(rt: HostRuntime) {
     assert!(rt; formed(b'L', &[FIRST, SECOND], &page));
     assert!(rt; !formed(b'L', &[SECOND, FIRST], &page));
     assert!(rt; !formed(b'L', &[FIRST], &page));
-    assert!(rt; !formed(b'L', &[FIRST, SECOND, NO_ENTRY], &page));
+    assert!(rt; !formed(b'L', &[FIRST, SECOND, Entry::default()], &page));
     assert!(rt; !formed(b'R', &[FIRST, SECOND], &page));
 }
 

@@ -1,5 +1,5 @@
 // A worked root of two items: its bytes both ways, and which of them have no use.
-use crate::kinds::{NO_ITEM, are_fixed, entries_on, put};
+use crate::kinds::{are_fixed, entries_on, put};
 use pages::page::{decode_page, write_page};
 use pages::records::Item;
 use std::process::Abort;
@@ -28,21 +28,13 @@ fn root(rt: &impl Abort) -> [u8; 512] {
     page
 }
 
-// Checks the parts of an item.
-fn is_item(rt: &impl Abort, item: &Item, other: &Item) {
-    assert!(rt; item.separator == other.separator);
-    assert_eq!(rt; item.page, other.page);
-}
-
 #[test]
 fn both_ways(rt: HostRuntime) {
     let mut page = [255; 512];
     write_page(b'R', &[FIRST, SECOND], &mut page);
     assert!(rt; page == root(&rt));
-    let mut out = [NO_ITEM; 20];
-    assert_eq!(rt; decode_page(b'R', &page, &mut out), Some(2));
-    is_item(&rt, &out[0], &FIRST);
-    is_item(&rt, &out[1], &SECOND);
+    let items = decode_page::<Item, 20>(b'R', &page);
+    assert!(rt; items.is_some_and(|items| items.as_slice() == [FIRST, SECOND].as_slice()));
     assert_eq!(rt; entries_on(&page), None);
 }
 
