@@ -11,31 +11,33 @@ use rows::row::Row;
 
 // Writes the records one after another, from byte 32 on.
 fn write_all<R: Stored>(records: &[R], page: &mut [u8; 512])
-    requires { Room R.wide (length records.now) }
-    ensures { page.new ≡ take 32 page.old ++ flat_map R.bytes records.now ++ drop (32 + R.wide * length records.now) page.old }
+    requires { Room R.WIDE (length records.now) }
+    ensures { page.new ≡ take 32 page.old ++ flat_map R.bytes records.now ++ drop (32 + R.WIDE * length records.now) page.old }
 {
-    let w = R::width();
-    for (i, r) in records.iter().enumerate() {
-        let at = 32 + w * i;
-        r.write(&mut page[at..at + w]);
+    let wide = R::WIDE;
+    // By places: a proof does not know what `chunks_exact_mut` leaves in a page.
+    for (i, record) in records.iter().enumerate() {
+        let at = 32 + wide * i;
+        record.write(&mut page[at..at + wide]);
     }
 }
 
 // Reads as many records as there are places, from byte 32 on.
 fn read_all<R: Stored + Copy>(page: &[u8; 512], out: &mut [R])
-    requires { Room R.wide (length out.old) }
-    ensures { out.new ≡ values R.value R.wide (length out.old) (drop 32 page.now) }
+    requires { Room R.WIDE (length out.old) }
+    ensures { out.new ≡ values R.value R.WIDE (length out.old) (drop 32 page.now) }
 {
-    let w = R::width();
-    for i in 0..out.len() {
-        let at = 32 + w * i;
-        out[i] = R::read(&page[at..at + w]);
+    let mut rest = &page[32..];
+    for record in out.iter_mut() {
+        let (bytes, behind) = rest.split_at(R::WIDE);
+        *record = R::read(bytes);
+        rest = behind;
     }
 }
 
 /// Makes a page of records: N and a letter, their count, and from byte 32 on the records.
 pub fn write_page<R: Stored>(letter: u8, records: &[R], page: &mut [u8; 512])
-    requires { Holds R.wide (length records.now) }
+    requires { Holds R.WIDE (length records.now) }
     ensures { page.new ≡ page_of R.bytes letter records.now }
 {
     *page = [0; 512];
@@ -47,9 +49,9 @@ pub fn write_page<R: Stored>(letter: u8, records: &[R], page: &mut [u8; 512])
 
 /// Reads the records of a page, at most so many, and says how many there are.
 pub fn read_page<R: Stored + Copy>(page: &[u8; 512], most: usize, out: &mut [R]) -> usize
-    requires { Room R.wide most × (most ≤ length out.old) }
+    requires { Room R.WIDE most × (most ≤ length out.old) }
     ensures count { result ≡ min (slice_index page.now 2) most }
-    ensures held { take result out.new ≡ records_of R.value R.wide most page.now }
+    ensures held { take result out.new ≡ records_of R.value R.WIDE most page.now }
     ensures rest { drop result out.new ≡ drop result out.old }
 {
     let n = (page[2] as usize).min(most);
@@ -59,7 +61,7 @@ pub fn read_page<R: Stored + Copy>(page: &[u8; 512], most: usize, out: &mut [R])
 
 /// Whether a page is just what these records make under a letter.
 pub fn formed<R: Stored>(letter: u8, records: &[R], page: &[u8; 512]) -> bool
-    requires { Holds R.wide (length records.now) }
+    requires { Holds R.WIDE (length records.now) }
     ensures { Decides result (page.now ≡ page_of R.bytes letter records.now) }
 {
     let mut made = [0; 512];
@@ -72,9 +74,9 @@ pub fn read_row<R: Stored + Copy + Default, const N: usize>(
     page: &[u8; 512],
     most: usize,
 ) -> Row<R, N>
-    requires room { Room R.wide most }
+    requires room { Room R.WIDE most }
     requires within { most ≤ N }
-    ensures { result ≡ records_of R.value R.wide most page.now }
+    ensures { result ≡ records_of R.value R.WIDE most page.now }
 {
     let mut records = [R::default(); N];
     let count = read_page(page, most, &mut records);
@@ -86,8 +88,8 @@ pub fn decode_page<R: Stored + Copy + Default, const N: usize>(
     letter: u8,
     page: &[u8; 512],
 ) -> Option<Row<R, N>>
-    requires { Holds R.wide N }
-    ensures value { Decoded R.fit R.bytes R.value R.wide letter N page.now result }
+    requires { Holds R.WIDE N }
+    ensures value { Decoded R.fit R.bytes R.value R.WIDE letter N page.now result }
     ensures law { Decodes (Few R.fit N) (page_of R.bytes letter) page.now result }
 {
     let row = read_row::<R, N>(page, N);

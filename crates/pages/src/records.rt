@@ -1,5 +1,5 @@
 // The records of a register: the items of its root, and the entries of its leaves.
-ghost use Rattle.std.specs.Prelude.{◌≡◌, ◌+◌, ◌≤◌, ◌++◌, length, take, drop};
+ghost use Rattle.std.specs.Prelude.{◌≡◌, ◌+◌, ◌≤◌, length, take, drop};
 ghost use Rattle.names.specs.Orders.{before};
 ghost use Rattle.pages.specs.Records.{item_bytes, item_of, ItemFit, entry_bytes, entry_of, EntryFit};
 ghost use Rattle.pages.specs.Fields.{item-long, item_back, item-fits, entry-long, entry-back, entry-fits};
@@ -8,15 +8,14 @@ ghost use Rattle.names.proofs.ByteOrder.{keys-ordered};
 use crate::stored::Stored;
 use rows::keyed::Keyed;
 
-// Puts bytes into a buffer from a place on, and says where they end.
-fn put_bytes(buf: &mut [u8], at: usize, bytes: &[u8]) -> usize
-    requires { at + length bytes.now ≤ length buf.old }
-    ensures place { result ≡ at + length bytes.now }
-    ensures after { buf.new ≡ take at buf.old ++ bytes.now ++ drop (at + length bytes.now) buf.old }
+// The bytes of a buffer from a place on, as many as are asked for.
+fn bytes_at<const N: usize>(buf: &[u8], at: usize) -> [u8; N]
+    requires { at + N ≤ length buf.now }
+    ensures { result ≡ take N (drop at buf.now) }
 {
-    let end = at + bytes.len();
-    buf[at..end].copy_from_slice(bytes);
-    end
+    let mut bytes = [0; N];
+    bytes.copy_from_slice(&buf[at..at + N]);
+    bytes
 }
 
 /// An item of the root: the keys from its separator on, up to that of the next item, belong to its page.
@@ -67,7 +66,9 @@ impl Keyed for Entry {
 }
 
 impl Stored for Item {
-    ghost wide = { 24 };
+    ghost WIDE = { 24 };
+
+    const WIDE: usize = 24;
 
     ghost bytes = { item_bytes };
 
@@ -81,28 +82,23 @@ impl Stored for Item {
 
     ghost fits = { item-fits };
 
-    fn width() -> usize {
-        24
-    }
-
     fn write(&self, buf: &mut [u8]) {
-        let page = self.page.to_be_bytes();
-        let at = put_bytes(buf, 0, &self.separator);
-        let _end = put_bytes(buf, at, &page);
+        buf[..22].copy_from_slice(&self.separator);
+        buf[22..].copy_from_slice(&self.page.to_be_bytes());
     }
 
     fn read(buf: &[u8]) -> Item {
-        let mut separator = [0; 22];
-        separator.copy_from_slice(&buf[0..22]);
         Item {
-            separator,
-            page: u16::from_be_bytes([buf[22], buf[23]]),
+            separator: bytes_at(buf, 0),
+            page: u16::from_be_bytes(bytes_at(buf, 22)),
         }
     }
 }
 
 impl Stored for Entry {
-    ghost wide = { 32 };
+    ghost WIDE = { 32 };
+
+    const WIDE: usize = 32;
 
     ghost bytes = { entry_bytes };
 
@@ -116,26 +112,18 @@ impl Stored for Entry {
 
     ghost fits = { entry-fits };
 
-    fn width() -> usize {
-        32
-    }
-
     fn write(&self, buf: &mut [u8]) {
-        let start = self.start.to_be_bytes();
-        let length = self.length.to_be_bytes();
-        let at = put_bytes(buf, 0, &self.key);
-        let at = put_bytes(buf, at, &start);
-        let at = put_bytes(buf, at, &length);
-        let _end = put_bytes(buf, at, &[0, 0]);
+        buf[..22].copy_from_slice(&self.key);
+        buf[22..26].copy_from_slice(&self.start.to_be_bytes());
+        buf[26..30].copy_from_slice(&self.length.to_be_bytes());
+        buf[30..].copy_from_slice(&[0, 0]);
     }
 
     fn read(buf: &[u8]) -> Entry {
-        let mut key = [0; 22];
-        key.copy_from_slice(&buf[0..22]);
         Entry {
-            key,
-            start: u32::from_be_bytes([buf[22], buf[23], buf[24], buf[25]]),
-            length: u32::from_be_bytes([buf[26], buf[27], buf[28], buf[29]]),
+            key: bytes_at(buf, 0),
+            start: u32::from_be_bytes(bytes_at(buf, 22)),
+            length: u32::from_be_bytes(bytes_at(buf, 26)),
         }
     }
 }

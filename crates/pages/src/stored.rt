@@ -5,7 +5,10 @@ ghost use Rattle.pages.specs.Bytes.{AreBytes};
 /// How a record is stored on a page.
 pub trait Stored: Sized {
     /// How many bytes a record has.
-    ghost wide: { ℕ };
+    ghost WIDE: { ℕ };
+
+    /// The same.
+    const WIDE: usize;
 
     /// The bytes of a record.
     ghost bytes: { Self → List ℕ };
@@ -16,26 +19,22 @@ pub trait Stored: Sized {
     /// A record's parts fit in their bytes.
     ghost fit: { Self → Type 0 };
 
-    /// How many bytes a record has.
-    fn width() -> usize
-        ensures { result ≡ wide };
-
     /// Fills a buffer with the record's bytes.
     fn write(&self, buf: &mut [u8])
-        requires { length buf.old ≡ wide }
+        requires { length buf.old ≡ WIDE }
         ensures { buf.new ≡ bytes self.now };
 
     /// The record in a buffer.
     fn read(buf: &[u8]) -> Self
-        requires { length buf.now ≡ wide }
+        requires { length buf.now ≡ WIDE }
         ensures { result ≡ value buf.now };
 
     /// A record that fits has so many bytes.
-    ghost long: { (x : Self) → fit x → length (bytes x) ≡ wide };
+    ghost long: { (x : Self) → fit x → length (bytes x) ≡ WIDE };
 
     /// It comes back from its bytes.
     ghost back: { (x : Self) → fit x → value (bytes x) ≡ x };
 
     /// What is read from bytes fits.
-    ghost fits: { (bs : List ℕ) → length bs ≡ wide → AreBytes bs → fit (value bs) };
+    ghost fits: { (bs : List ℕ) → length bs ≡ WIDE → AreBytes bs → fit (value bs) };
 }

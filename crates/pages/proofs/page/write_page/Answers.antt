@@ -9,7 +9,7 @@ pub returns : goal.returns
 unfolding page_of padded
 returns g c =
     let n = length c.args.records.now in
-    let k = g.R.Stored.wide * n in
+    let k = g.R.Stored.WIDE * n in
     let js = flat_map g.R.Stored.bytes c.args.records.now in
     let front : List ℕ = 78 ∷ c.args.letter ∷ n ∷ replicate 29 0 in
     let empty : List ℕ = 78 ∷ c.args.letter ∷ n ∷ replicate 509 0 in

@@ -1,9 +1,10 @@
-use Rattle.std.proofs.Common.{◌∙◌, arith}
-use Rattle.pages.proofs.Cursor.{nothing, more, whole}
+use Rattle.std.proofs.Common.{◌≡◌, ◌++◌, length, drop, ◌∙◌, ap₂, arith, length-take}
+use Rattle.pages.proofs.Cursor.{last}
 use Rattle.pages.proofs.records.ItemStored.write.Goals as goal
 
 pub returns : goal.returns
 returns c =
-    let a = more c.args.self.now.separator (nothing c.args.buf.now) c.put_bytes-at.ensures.place c.put_bytes-at.ensures.after in
-    let e = more c.to_be_bytes-page.result a c.put_bytes-end.ensures.place c.put_bytes-end.ensures.after in
-    whole e (omega (arith, e.place, c.put_bytes-end.ensures.place)) ∙ simp c.to_be_bytes-page.ensures
+    let key = c.copy_from_slice.new.self in
+    let number = c.copy_from_slice-2.new.self in
+    let l : length key ≡ 22 = omega (arith, c.copy_from_slice.ensures.len, length-take 22 c.args.buf.now, c.requires) in
+    last key (drop 22 c.args.buf.now) number 22 l ∙ ap₂ ◌++◌ c.copy_from_slice.ensures.after (c.copy_from_slice-2.ensures.after ∙ c.to_be_bytes.ensures)
