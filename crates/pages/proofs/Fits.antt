@@ -3,11 +3,11 @@
 --     values-each      what holds of each value of so many bytes holds of all
 --     records-few      the records of a page are no more than the most
 --     few-read         and they fit
-use Rattle.std.proofs.Common.{◌≡◌, ℕ, zero, suc, ◌+◌, ◌*◌, ◌<◌, ◌≤◌, min, List, [], ◌∷◌, length, get_or, take, drop, refl, ap, mul-suc, mul-le-mul_left, arith}
+use Rattle.std.proofs.Common.{◌≡◌, ℕ, zero, suc, ◌*◌, ◌<◌, ◌≤◌, min, List, [], ◌∷◌, length, get_or, take, drop, refl, ap, mul-suc, mul-le-mul_left, arith}
 use Rattle.std.specs.List.{AllByRecursion}
 use Rattle.std.proofs.lemmas.List.{length-take, length-drop}
 use Rattle.std.proofs.ByRecursion.{All-take, All-drop}
-use Rattle.pages.specs.Bytes.{values, records_of, AreBytes}
+use Rattle.pages.specs.Bytes.{Room, values, records_of, AreBytes}
 use Rattle.pages.specs.Decoding.{Few}
 
 pub are-bytes : (bs : List ℕ) → ((i : ℕ) → get_or bs i 0 < 256) → AreBytes bs
@@ -31,7 +31,7 @@ unfolding records_of
 records-few value w most page = omega (arith, length-values value w (min (get_or page 2 0) most) (drop 32 page))
 
 pub few-read : {X : Type 0} (value : List ℕ → X) (w : ℕ) (fit : X → Type 0) → ((bs : List ℕ) → length bs ≡ w → AreBytes bs → fit (value bs))
-    → (most : ℕ) (page : List ℕ) → 32 + w * most ≤ 512 → length page ≡ 512 → AreBytes page → Few fit most (records_of value w most page)
+    → (most : ℕ) (page : List ℕ) → Room w most → length page ≡ 512 → AreBytes page → Few fit most (records_of value w most page)
 unfolding records_of
 few-read value w fit fits most page room l a =
     let n = min (get_or page 2 0) most in

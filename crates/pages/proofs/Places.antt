@@ -10,7 +10,7 @@ use Rattle.std.specs.List.{flat_map}
 use Rattle.std.proofs.lemmas.List.{take_more, flat_map_more, length-append, drop-drop}
 use Rattle.std.proofs.lemmas.Slice.{put_mid-paste}
 use Rattle.std.proofs.lemmas.List.Edits.{paste-paste}
-use Rattle.pages.specs.Bytes.{values}
+use Rattle.pages.specs.Bytes.{Room, values}
 
 -- bytes put over a page from byte 32 on
 abbrev pub put : List ℕ → List ℕ → List ℕ
@@ -19,7 +19,7 @@ put page bytes = paste page 32 bytes (length bytes)
 pub times_more : (w i : ℕ) → w * (i + 1) ≡ w * i + w
 times_more w i = mul-add w i 1 ∙ ap (λ x. w * i + x) (mul-one w)
 
-pub place-fits : (w v i n : ℕ) → w ≡ v → i < n → 32 + v * n ≤ 512 → 32 + w * i + w ≤ 512
+pub place-fits : (w v i n : ℕ) → w ≡ v → i < n → Room v n → 32 + w * i + w ≤ 512
 place-fits w v i n e l h = omega (arith, times_more w i, mul-le-mul_left {m = i + 1} {n = n} w (omega arith), ap (λ x. x * n) e)
 
 pub written-more : {R : Type 0} (bytes : R → List ℕ) (rs : List R) (d page b : List ℕ) (i w k : ℕ) (x : R) → i < length rs → w ≡ k → length b ≡ w → 32 ≤ length d

@@ -128,7 +128,7 @@ impl Stored for Entry {
     }
 }
 
-// Whether one key comes before another, by their bytes.
+// Whether one key comes before another, by their bytes. `Keyed` cannot provide this: its impls may name another order.
 fn key_before(first: &[u8; 22], second: &[u8; 22]) -> bool
     ensures { result ≡ before first.now second.now }
 {

@@ -4,10 +4,10 @@ ghost use Rattle.pages.specs.Bytes.{AreBytes};
 
 /// How a record is stored on a page.
 pub trait Stored: Sized {
-    /// How many bytes a record has.
+    /// How many bytes a record has, for proofs.
     ghost WIDE: { ℕ };
 
-    /// The same.
+    /// How many bytes a record has.
     const WIDE: usize;
 
     /// The bytes of a record.
