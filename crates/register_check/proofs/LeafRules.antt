@@ -27,7 +27,7 @@ under-decided (Some next) k = itself-decided (before k next)
 entry-decided : (l : Limits) (e : Entry) → Decides (entry_right l e) (EntryRight l e)
 entry-decided l e =
     Decides-like (entry_right l e) (λ t. record { key = t.0.0.0; from = t.0.0.1; below = t.0.1; placed = t.1 }) (λ r. (((r.key, r.from), r.below), r.placed))
-    (Decides-and _ _ (Decides-and _ _ (Decides-and _ _ (itself-decided (is_byte_key e.key)) (not-decided (before e.key l.separator))) (under-decided l.next e.key)) (in_place-decided l.first l.sectors e))
+    (Decides-and _ _ (Decides-and _ _ (Decides-and _ _ (itself-decided (is_byte_key e.key)) (not-decided (before e.key l.separator))) (under-decided l.next e.key)) (in_place-decided l.area.first l.area.sectors e))
 
 filled-decided : (single : Bool) (n : ℕ) → Decides (single || not (eqb n 0)) (single ≡ false → 0 < n)
 filled-decided single n = ((λ t e. grind (arith, nat_tests)), (λ h. elim single as (λ b. (b ≡ false → 0 < n) → (b || not (eqb n 0)) ≡ true) [ true ↦ λ k. refl | false ↦ λ k. some n (k refl) ] h))

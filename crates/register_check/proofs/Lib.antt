@@ -1,7 +1,6 @@
 pub mod Chained
 pub mod Permuted
 pub mod Neighbours
-pub mod LeafTurns
 pub mod Risings
 pub mod RootRules
 pub mod Outcomes

@@ -34,7 +34,7 @@ module _ (images : List (List ℕ)) where
   rises-from items f = (rising-decided separator_of items).0 (rising-from items f)
 
 -- what is asked of each entry, put together
-all-right : (l : Limits) (es : List Entry) → AllByRecursion (λ e. is_byte_key e.key ≡ true) es → AllByRecursion (λ e. before e.key l.separator ≡ false) es → AllByRecursion (λ e. Under key_of before l.next e.key) es → AllByRecursion (InPlace l.first l.sectors) es
+all-right : (l : Limits) (es : List Entry) → AllByRecursion (λ e. is_byte_key e.key ≡ true) es → AllByRecursion (λ e. before e.key l.separator ≡ false) es → AllByRecursion (λ e. Under key_of before l.next e.key) es → AllByRecursion (InPlace l.area.first l.area.sectors) es
     → AllByRecursion (EntryRight l) es
 all-right l [] k f b p = tt
 all-right l (e ∷ es) k f b p = (record { key = k.0; from = f.0; below = b.0; placed = p.0 }, all-right l es k.1 f.1 b.1 p.1)

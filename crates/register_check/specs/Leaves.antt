@@ -21,13 +21,13 @@ use Rattle.register_check.specs.Extents.{InPlace, in_place}
 use Rattle.register_check.specs.declared.leaves.Limits.{Limits}
 
 abbrev pub limits : List ℕ → Option (List ℕ) → ℕ → ℕ → Limits
-limits separator next first sectors = record { separator = separator; next = next; first = first; sectors = sectors }
+limits separator next first sectors = record { separator = separator; next = next; area = record { first = first; sectors = sectors } }
 
 pub record EntryRight (l : Limits) (e : Entry) : Type 0 where
   pub key : is_byte_key e.key ≡ true
   pub from : before e.key l.separator ≡ false
   pub below : Under key_of before l.next e.key
-  pub placed : InPlace l.first l.sectors e
+  pub placed : InPlace l.area.first l.area.sectors e
 
 pub record LeafRight (l : Limits) (single : Bool) (page : List ℕ) (es : List Entry) : Type 0 where
   pub form : page ≡ leaf_page es
@@ -40,7 +40,7 @@ under None k = true
 under (Some next) k = before k next
 
 abbrev pub entry_right : Limits → Entry → Bool
-entry_right l e = is_byte_key e.key && not (before e.key l.separator) && under l.next e.key && in_place l.first l.sectors e
+entry_right l e = is_byte_key e.key && not (before e.key l.separator) && under l.next e.key && in_place l.area.first l.area.sectors e
 
 abbrev pub leaf_right : Limits → Bool → List ℕ → List Entry → Bool
 leaf_right l single page es = pointwise nat_eq page (leaf_page es) && (single || not (length es == 0)) && rising key_of es && list_all (entry_right l) es

@@ -2,9 +2,9 @@
 ghost use Rattle.std.specs.Prelude.{◌≡◌, ◌≤◌, map, length};
 ghost use Rattle.register_check.specs.Faults.{fault, Verdict};
 
-use crate::collect::extents_apart;
+use crate::extents::Area;
 use crate::roots::{NO_ITEM, root_right};
-use crate::search::first_leaf;
+use crate::search::Leaves;
 use pages::page::read_page;
 use pages::paged::{Paged, image_at};
 
@@ -21,10 +21,11 @@ pub fn check<P: Paged>(pages: &[P], first: u32, sectors: u32) -> Option<usize>
     if !root_right(&root, items, pages.len()) {
         return Some(0);
     }
-    if let Some(page) = first_leaf(pages, items, first, sectors) {
+    let leaves = Leaves { pages, items };
+    if let Some(page) = leaves.first_wrong(Area { first, sectors }) {
         return Some(page);
     }
-    if extents_apart(pages, items) {
+    if leaves.extents_apart() {
         None
     } else {
         Some(0)

@@ -7,47 +7,56 @@ use geometry::sizes::LONGEST;
 use pages::records::Entry;
 
 /// The sectors of a file: the first, and how many.
-#[derive(Clone, Copy, PartialEq, Eq, PartialOrd, Ord)]
+#[derive(Clone, Copy, Default, PartialEq, Eq, PartialOrd, Ord)]
 pub(crate) struct Extent {
     pub start: u32,
     pub sectors: u32,
 }
 
-// What a place for an extent holds before it is collected.
-pub(crate) const NO_EXTENT: Extent = Extent {
-    start: 0,
-    sectors: 0,
-};
-
 // The extent of an entry's file.
-pub(crate) fn extent_of(entry: &Entry) -> Extent
-    ensures { result ≡ extent entry.now }
-{
-    Extent {
-        start: entry.start,
-        sectors: entry.length.div_ceil(512) + 2,
+impl From<&Entry> for Extent {
+    ghost from_gives = { λ entry x. x ≡ extent entry.now };
+
+    fn from(entry: &Entry) -> Extent {
+        Extent {
+            start: entry.start,
+            sectors: entry.length.div_ceil(512) + 2,
+        }
     }
 }
 
-// Whether an extent ends before a sector.
-fn ends_by(extent: &Extent, sector: u32) -> bool
-    ensures { result ≡ ends_by extent.now sector }
-{
-    extent.start <= sector && extent.sectors <= sector - extent.start
+impl Extent {
+    // Whether it ends before a sector.
+    fn ends_by(&self, sector: u32) -> bool
+        ensures { result ≡ ends_by self.now sector }
+    {
+        self.start <= sector && self.sectors <= sector - self.start
+    }
 }
 
-// Whether an entry's length is one that a file may have, and its extent lies between two sectors.
-pub(crate) fn in_place(entry: &Entry, first: u32, sectors: u32) -> bool
-    ensures { result ≡ in_place first sectors entry.now }
-{
-    entry.length <= LONGEST && first <= entry.start && ends_by(&extent_of(entry), sectors)
+/// The sectors for files: from `first` on and below `sectors`.
+#[derive(Clone, Copy)]
+pub(crate) struct Area {
+    pub first: u32,
+    pub sectors: u32,
+}
+
+impl Area {
+    // Whether an entry's length is one that a file may have, and its extent lies here.
+    pub(crate) fn holds(&self, entry: &Entry) -> bool
+        ensures { result ≡ in_place self.now.first self.now.sectors entry.now }
+    {
+        entry.length <= LONGEST
+            && self.first <= entry.start
+            && Extent::from(entry).ends_by(self.sectors)
+    }
 }
 
 // Whether each extent ends before the next begins.
 fn in_turn(extents: &[Extent]) -> bool
     ensures { result ≡ chained (λ x y. ends_by x y.start) extents.now }
 {
-    extents.is_sorted_by(|x, y| ends_by(x, y.start))
+    extents.is_sorted_by(|x, y| x.ends_by(y.start))
 }
 
 // Whether no two extents meet. It leaves them in order.

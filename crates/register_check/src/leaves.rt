@@ -3,7 +3,7 @@ ghost use Rattle.std.specs.Prelude.{◌≡◌, ◌≤◌, length};
 ghost use Rattle.std.specs.List.{list_all};
 ghost use Rattle.register_check.specs.Leaves.{under, entry_right, leaf_right};
 
-use crate::extents::in_place;
+use crate::extents::Area;
 use crate::keys::{is_key, rising};
 use pages::page::formed;
 use pages::records::Entry;
@@ -21,8 +21,7 @@ pub(crate) const NO_ENTRY: Entry = Entry {
 pub(crate) struct Limits {
     pub separator: [u8; 22],
     pub next: Option<[u8; 22]>,
-    pub first: u32,
-    pub sectors: u32,
+    pub area: Area,
 }
 
 impl Limits {
@@ -43,7 +42,7 @@ impl Limits {
         is_key(&entry.key)
             && !Entry::comes_before(&entry.key, &self.separator)
             && self.under(&entry.key)
-            && in_place(entry, self.first, self.sectors)
+            && self.area.holds(entry)
     }
 
     // Whether each entry keeps the rules by itself.

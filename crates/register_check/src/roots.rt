@@ -15,12 +15,13 @@ pub(crate) const NO_ITEM: Item = Item {
 };
 
 // Whether there are items, and the first separator is zeros.
+#[tactic(auto, unfolding(register::specs::Images::zero_key))]
 fn zeros_first(items: &[Item]) -> bool
     ensures { result ≡ zeros_first items.now }
 {
-    match items.first() {
-        Some(first) => first.separator == [0; 22],
-        None => false,
+    match items {
+        [first, ..] => first.separator == [0; 22],
+        [] => false,
     }
 }
 
@@ -31,30 +32,27 @@ fn keys_behind(items: &[Item]) -> bool
     items.iter().skip(1).all(|i| is_key(&i.separator))
 }
 
-// Whether one of the items is that of a page.
-fn names(items: &[Item], page: u16) -> bool
-    ensures { result ≡ has page (pages_of items.now) }
+// Whether an item's page is that of a leaf, and no later item's.
+fn page_right(item: &Item, later: &[Item], pages: usize) -> bool
+    ensures { result ≡ (leaf_page_of pages item.now && not (has item.now.page (pages_of later.now))) }
 {
-    items.iter().any(|i| page == i.page)
+    item.page >= 1
+        && usize::from(item.page) < pages
+        && !later.iter().any(|other| item.page == other.page)
 }
 
 // Whether the items' pages differ, and are those of leaves.
 fn pages_right(items: &[Item], pages: usize) -> bool
     ensures { result ≡ pages_right pages items.now }
 {
-    for (i, item) in items.iter().enumerate() {
-        if !page_right(item, &items[i + 1..], pages) {
+    let mut rest = items;
+    while let Some((item, later)) = rest.split_first() {
+        if !page_right(item, later, pages) {
             return false;
         }
+        rest = later;
     }
     true
-}
-
-// Whether an item's page is that of a leaf, and no later item's.
-fn page_right(item: &Item, rest: &[Item], pages: usize) -> bool
-    ensures { result ≡ (leaf_page_of pages item.now && not (has item.now.page (pages_of rest.now))) }
-{
-    item.page >= 1 && usize::from(item.page) < pages && !names(rest, item.page)
 }
 
 // Whether a page with these items is a right root.

@@ -1,57 +1,65 @@
-// The search for the first leaf of a register that is not right.
-ghost use Rattle.std.specs.Prelude.{◌≡◌, ◌+◌, ◌<◌, map, length, drop, ◌==◌};
-ghost use Rattle.std.specs.List.{AllByRecursion};
-ghost use Rattle.register_check.specs.Leaves.{next_separator, leaf_at};
+// The leaves that a root names, and the search for the first of them that is not right.
+ghost use Rattle.std.specs.Prelude.{◌≡◌, ◌<◌, ◌≤◌, map, length, ◌==◌};
+ghost use Rattle.std.specs.Coded.{le_prop};
+ghost use Rattle.std.specs.List.{AllByRecursion, AllByRecursion-prop};
+ghost use Rattle.register.specs.Images.{page_at, leaf_of};
+ghost use Rattle.register_check.specs.Leaves.{next_separator, leaf_right};
 ghost use Rattle.register_check.specs.Faults.{first_leaf};
 
+use crate::extents::Area;
 use crate::leaves::{Limits, NO_ENTRY};
 use pages::page::read_page;
 use pages::paged::{Paged, image_at};
 use pages::records::Item;
 
-// The separator behind that of an item, if there is one.
-fn next_separator(items: &[Item], at: usize) -> Option<[u8; 22]>
-    requires { at < length items.now }
-    ensures { result ≡ next_separator (drop (at + 1) items.now) }
+/// The pages of a register, and the items of its root, which name some of them.
+#[derive(Drop)]
+pub(crate) struct Leaves<'a, P: Paged> {
+    pub pages: &'a [P],
+    pub items: &'a [Item],
+    ghost few: { length items.now ≤ 20 },
+    ghost named: { AllByRecursion (λ i. i.page < length pages.now) items.now } by { AllByRecursion-prop _ (λ i. le_prop) items.now },
+}
+
+// The first separator of items, if there is one.
+fn next_separator(items: &[Item]) -> Option<[u8; 22]>
+    ensures { result ≡ next_separator items.now }
 {
-    match items.get(at + 1) {
-        Some(next) => Some(next.separator),
-        None => None,
+    match items {
+        [next, ..] => Some(next.separator),
+        [] => None,
     }
 }
 
-// Whether the leaf of an item is right.
-fn leaf_at<P: Paged>(pages: &[P], items: &[Item], at: usize, first: u32, sectors: u32) -> bool
-    requires inside { at < length items.now }
-    requires pages { AllByRecursion (λ i. i.page < length pages.now) items.now }
-    ensures { result ≡ leaf_at first sectors (length items.now == 1) (map P.image pages.now) items.now at }
+// Whether the leaf on a page is right.
+fn leaf_right<P: Paged>(pages: &[P], page: u16, limits: &Limits, single: bool) -> bool
+    requires { page < length pages.now }
+    ensures { result ≡ leaf_right limits.now single (page_at (map P.image pages.now) page) (leaf_of (map P.image pages.now) page) }
 {
-    let page = image_at(pages, usize::from(items[at].page));
+    let page = image_at(pages, usize::from(page));
     let mut entries = [NO_ENTRY; 15];
     let count = read_page(&page, 15, &mut entries);
-    let limits = Limits {
-        separator: items[at].separator,
-        next: next_separator(items, at),
-        first,
-        sectors,
-    };
-    limits.leaf_right(items.len() == 1, &page, &entries[..count])
+    limits.leaf_right(single, &page, &entries[..count])
 }
 
-// The page of the first leaf that is not right, in the order of the items.
-pub(crate) fn first_leaf<P: Paged>(
-    pages: &[P],
-    items: &[Item],
-    first: u32,
-    sectors: u32,
-) -> Option<usize>
-    requires { AllByRecursion (λ i. i.page < length pages.now) items.now }
-    ensures { result ≡ first_leaf first sectors (length items.now == 1) (map P.image pages.now) items.now }
-{
-    for i in 0..items.len() {
-        if !leaf_at(pages, items, i, first, sectors) {
-            return Some(usize::from(items[i].page));
+impl<'a, P: Paged> Leaves<'a, P> {
+    // The page of the first leaf that is not right, in the order of the items.
+    pub(crate) fn first_wrong(&self, area: Area) -> Option<usize>
+        ensures { result ≡ first_leaf area.first area.sectors (length self.now.items.now == 1) (map P.image self.now.pages.now) self.now.items.now }
+    {
+        let single = self.items.len() == 1;
+        let mut rest = self.items;
+        while let Some((item, later)) = rest.split_first() {
+            let limits = Limits {
+                separator: item.separator,
+                next: next_separator(later),
+                area,
+            };
+            if !leaf_right(self.pages, item.page, &limits, single) {
+                return Some(usize::from(item.page));
+            }
+            rest = later;
         }
+        None
     }
-    None
 }

@@ -6,11 +6,8 @@ use Rattle.register_check.proofs.Outcomes.{items-inside, root-fault, leaf-fault,
 use Rattle.register_check.proofs.Verdicts.{verdict}
 use Rattle.register_check.proofs.check.check.Goals as goal
 
-pub first_leaf-requires : goal.first_leaf-requires
-first_leaf-requires g c = items-inside (length c.args.pages.now) c.image_at-root.result (take c.read_page-count.result c.read_page-count.new.out) c.if-not-root_right.ensures
-
-pub extents_apart-requires-clause-pages : goal.extents_apart-requires-clause-pages
-extents_apart-requires-clause-pages g c = items-inside (length c.args.pages.now) c.image_at-root.result (take c.read_page-count.result c.read_page-count.new.out) c.if-not-root_right.ensures
+pub invariant_of-leaves-clause-named : goal.invariant_of-leaves-clause-named
+invariant_of-leaves-clause-named g c = items-inside (length c.args.pages.now) c.image_at-root.result (take c.read_page-count.result c.read_page-count.new.out) c.if-not-root_right.ensures
 
 pub returns-then-not-root_right : goal.returns-then-not-root_right
 returns-then-not-root_right g c =
