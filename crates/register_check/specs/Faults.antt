@@ -4,13 +4,15 @@
 --     IsRootRight, IsLeafRight     the root is right, and the leaf of the item at a place
 --     Breaks       what page p breaks: the root is not right; or it is, and p's leaf is the first in the root's order that is not; or all are, and extents meet
 --     first_leaf   the page of the first leaf that is not right
+--     fault_of_leaves      the page of the first leaf that is not right, or else the root's if the extents of the items' leaves meet
 --     fault        the first page that breaks a rule, or none
 --     Verdict      what an answer means
 use Rattle.std.specs.Prelude.{◌≡◌, ℕ, ◌<◌, Bool, cond, ◌↔◌, List, [], ◌∷◌, map, length, Some, None, Option, ◌==◌}
 use Rattle.std.specs.List.{AllByRecursion}
 use Rattle.rows.specs.Lists.{or_else}
 use Rattle.pages.specs.declared.records.Item.{Item}
-use Rattle.register.specs.Images.{page_at, items_of, leaf_of, entries_of}
+use Rattle.tree.specs.Tree.{entries}
+use Rattle.register.specs.Images.{page_at, items_of, leaf_of, node_of, entries_of}
 use Rattle.register.specs.Registers.{IsRegister}
 use Rattle.register_check.specs.Roots.{RootRight, root_right}
 use Rattle.register_check.specs.Extents.{extent, Apart, InPlace, apart}
@@ -40,11 +42,13 @@ module _ (first sectors : ℕ) (single : Bool) (images : List (List ℕ)) where
   first_leaf [] = None
   first_leaf (i ∷ is) = cond (leaf_right (limits i.separator (next_separator is) first sectors) single (page_at images i.page) (leaf_of images i.page)) (first_leaf is) (Some i.page)
 
+abbrev pub fault_of_leaves : ℕ → ℕ → List (List ℕ) → List Item → Option ℕ
+fault_of_leaves first sectors images items =
+    or_else (first_leaf first sectors (length items == 1) images items) (cond (apart (map extent (entries (map (node_of images) items)))) None (Some 0))
+
 unfoldable pub fault : ℕ → ℕ → ℕ → List (List ℕ) → Option ℕ
 fault first sectors P images =
-    cond (root_right P (page_at images 0) (items_of images))
-    (or_else (first_leaf first sectors (length (items_of images) == 1) images (items_of images)) (cond (apart (extents_of images)) None (Some 0)))
-    (Some 0)
+    cond (root_right P (page_at images 0) (items_of images)) (fault_of_leaves first sectors images (items_of images)) (Some 0)
 
 pub record Verdict (first sectors P : ℕ) (images : List (List ℕ)) (answer : Option ℕ) : Type 0 where
   pub none : (answer ≡ None) ↔ Kept first sectors P images

@@ -1,5 +1,5 @@
 // Whether a leaf of a register is right.
-ghost use Rattle.std.specs.Prelude.{◌≡◌, ◌≤◌, length};
+ghost use Rattle.std.specs.Prelude.{◌≡◌};
 ghost use Rattle.std.specs.List.{list_all};
 ghost use Rattle.register_check.specs.Leaves.{under, entry_right, leaf_right};
 
@@ -8,13 +8,7 @@ use crate::keys::{is_key, rising};
 use pages::page::formed;
 use pages::records::Entry;
 use rows::keyed::Keyed;
-
-// What a place for an entry holds before the entry is read.
-pub(crate) const NO_ENTRY: Entry = Entry {
-    key: [0; 22],
-    start: 0,
-    length: 0,
-};
+use rows::row::Row;
 
 /// What bounds the entries of a leaf: its separator, that of the next leaf if there is one, and the sectors for files.
 #[derive(Clone, Copy)]
@@ -53,10 +47,15 @@ impl Limits {
     }
 
     // Whether a page with these entries is a right leaf, which may be empty if it is the only one.
-    pub(crate) fn leaf_right(&self, single: bool, page: &[u8; 512], entries: &[Entry]) -> bool
-        requires { length entries.now ≤ 15 }
+    pub(crate) fn leaf_right(
+        &self,
+        single: bool,
+        page: &[u8; 512],
+        entries: &Row<Entry, 15>,
+    ) -> bool
         ensures { result ≡ leaf_right self.now single page.now entries.now }
     {
+        let entries = entries.as_slice();
         formed(b'L', entries, page)
             && (single || !entries.is_empty())
             && rising(entries)

@@ -1,5 +1,5 @@
 // Whether the root of a register is right.
-ghost use Rattle.std.specs.Prelude.{◌≡◌, ◌≤◌, not, ◌&&◌, length};
+ghost use Rattle.std.specs.Prelude.{◌≡◌, ◌≤◌, not, ◌&&◌};
 ghost use Rattle.tree.specs.Tree.{has};
 ghost use Rattle.register.specs.Images.{pages_of};
 ghost use Rattle.register_check.specs.Roots.{zeros_first, keys_behind, leaf_page_of, pages_right, root_right};
@@ -7,12 +7,7 @@ ghost use Rattle.register_check.specs.Roots.{zeros_first, keys_behind, leaf_page
 use crate::keys::{is_key, rising};
 use pages::page::formed;
 use pages::records::Item;
-
-// What a place for an item holds before the item is read.
-pub(crate) const NO_ITEM: Item = Item {
-    separator: [0; 22],
-    page: 0,
-};
+use rows::row::Row;
 
 // Whether there are items, and the first separator is zeros.
 #[tactic(auto, unfolding(register::specs::Images::zero_key))]
@@ -56,11 +51,11 @@ fn pages_right(items: &[Item], pages: usize) -> bool
 }
 
 // Whether a page with these items is a right root.
-pub(crate) fn root_right(page: &[u8; 512], items: &[Item], pages: usize) -> bool
-    requires few { length items.now ≤ 20 }
-    requires some { 1 ≤ pages }
+pub(crate) fn root_right(page: &[u8; 512], items: &Row<Item, 20>, pages: usize) -> bool
+    requires { 1 ≤ pages }
     ensures { result ≡ root_right pages page.now items.now }
 {
+    let items = items.as_slice();
     formed(b'R', items, page)
         && zeros_first(items)
         && keys_behind(items)

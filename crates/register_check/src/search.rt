@@ -1,5 +1,5 @@
 // The leaves that a root names, and the search for the first of them that is not right.
-ghost use Rattle.std.specs.Prelude.{◌≡◌, ◌<◌, ◌≤◌, map, length, ◌==◌};
+ghost use Rattle.std.specs.Prelude.{◌≡◌, ◌<◌, map, length, ◌==◌};
 ghost use Rattle.std.specs.Coded.{le_prop};
 ghost use Rattle.std.specs.List.{AllByRecursion, AllByRecursion-prop};
 ghost use Rattle.register.specs.Images.{page_at, leaf_of};
@@ -7,18 +7,18 @@ ghost use Rattle.register_check.specs.Leaves.{next_separator, leaf_right};
 ghost use Rattle.register_check.specs.Faults.{first_leaf};
 
 use crate::extents::Area;
-use crate::leaves::{Limits, NO_ENTRY};
-use pages::page::read_page;
+use crate::leaves::Limits;
+use pages::page::read_row;
 use pages::paged::{Paged, image_at};
 use pages::records::Item;
+use rows::row::Row;
 
 /// The pages of a register, and the items of its root, which name some of them.
 #[derive(Drop)]
 pub(crate) struct Leaves<'a, P: Paged> {
     pub pages: &'a [P],
-    pub items: &'a [Item],
-    ghost few: { length items.now ≤ 20 },
-    ghost named: { AllByRecursion (λ i. i.page < length pages.now) items.now } by { AllByRecursion-prop _ (λ i. le_prop) items.now },
+    pub items: Row<Item, 20>,
+    ghost named: { AllByRecursion (λ i. i.page < length pages.now) items } by { AllByRecursion-prop _ (λ i. le_prop) items },
 }
 
 // The first separator of items, if there is one.
@@ -37,18 +37,16 @@ fn leaf_right<P: Paged>(pages: &[P], page: u16, limits: &Limits, single: bool) -
     ensures { result ≡ leaf_right limits.now single (page_at (map P.image pages.now) page) (leaf_of (map P.image pages.now) page) }
 {
     let page = image_at(pages, usize::from(page));
-    let mut entries = [NO_ENTRY; 15];
-    let count = read_page(&page, 15, &mut entries);
-    limits.leaf_right(single, &page, &entries[..count])
+    limits.leaf_right(single, &page, &read_row(&page, 15))
 }
 
 impl<'a, P: Paged> Leaves<'a, P> {
     // The page of the first leaf that is not right, in the order of the items.
     pub(crate) fn first_wrong(&self, area: Area) -> Option<usize>
-        ensures { result ≡ first_leaf area.first area.sectors (length self.now.items.now == 1) (map P.image self.now.pages.now) self.now.items.now }
+        ensures { result ≡ first_leaf area.first area.sectors (length self.now.items == 1) (map P.image self.now.pages.now) self.now.items }
     {
         let single = self.items.len() == 1;
-        let mut rest = self.items;
+        let mut rest = self.items.as_slice();
         while let Some((item, later)) = rest.split_first() {
             let limits = Limits {
                 separator: item.separator,
