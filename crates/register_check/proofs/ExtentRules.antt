@@ -1,18 +1,19 @@
 -- What the tests of extents say.
 --     in_place-decided     the test of one entry's extent decides whether it is in place
 --     apart-decided        the test of the extents of entries decides whether they are apart
-use Rattle.std.proofs.Common.{ℕ, ◌+◌, ◌<◌, max, List, map, length, get_or, inl, inr, sym, subst, arith}
+use Rattle.std.proofs.Common.{◌≡◌, ℕ, ◌+◌, ◌<◌, max, true, not, List, map, length, get_or, inl, inr, sym, ap, subst, arith}
 use Rattle.std.specs.Bool.{Decides}
-use Rattle.std.proofs.lemmas.Bool.{or_parts, or_cases, leb-true, leb-false, true_from_ne_false, cases_order}
+use Rattle.std.specs.List.{IsDistinct}
+use Rattle.std.proofs.lemmas.Bool.{or_parts, or_cases, leb-true, leb-false, true_from_ne_false, not-false}
 use Rattle.std.proofs.lemmas.Bool.Decides.{Decides-and, Decides-like}
 use Rattle.std.proofs.lemmas.List.{get_or-map, length-map}
+use Rattle.std.proofs.lemmas.Map.Keys.{apart_from_distinct, IsDistinct-from_apart}
 use Rattle.geometry.specs.Sizes.{longest, extent_of}
 use Rattle.pages.specs.declared.records.Entry.{Entry}
 use Rattle.register.specs.Images.{no_entry}
 use Rattle.register_check.specs.Extents.{extent, Holds, Apart, InPlace, ends_by, clear, apart, in_place}
 use Rattle.register_check.specs.declared.extents.Extent.{Extent}
-use Rattle.register_check.proofs.Permuted.{Pairs}
-use Rattle.register_check.proofs.Neighbours.{Clear, pairs-apart, apart-pairs}
+use Rattle.register_check.proofs.Neighbours.{meets, apart-distinct}
 use Rattle.register_check.proofs.RootRules.{at_most-decided}
 
 pub in_place-decided : (first sectors : ℕ) (e : Entry) → Decides (in_place first sectors e) (InPlace first sectors e)
@@ -21,13 +22,13 @@ in_place-decided first sectors e =
     (Decides-and _ _ (Decides-and _ _ (at_most-decided e.length longest) (at_most-decided first e.start)) (at_most-decided (e.start + extent_of e.length) sectors))
 
 -- extents that are clear have no sector in common
-no-common : (x y : Extent) → Clear x y → (s : ℕ) → Holds x s → Holds y s → ⊥
+no-common : (x y : Extent) → clear x y ≡ true → (s : ℕ) → Holds x s → Holds y s → ⊥
 no-common x y c s hx hy =
     elim (or_cases (ends_by x y.start) (ends_by y x.start) c)
     [ inl e ↦ omega (arith, leb-true (x.start + x.sectors) y.start e) | inr e ↦ omega (arith, leb-true (y.start + y.sectors) x.start e) ]
 
 -- and of two that are not, the later begin is in both
-common : (x y : Extent) → 0 < x.sectors → 0 < y.sectors → ((s : ℕ) → Holds x s → Holds y s → ⊥) → Clear x y
+common : (x y : Extent) → 0 < x.sectors → 0 < y.sectors → ((s : ℕ) → Holds x s → Holds y s → ⊥) → clear x y ≡ true
 common x y px py h =
     true_from_ne_false (clear x y)
     (λ f. (let p = or_parts (ends_by x y.start) (ends_by y x.start) f in
@@ -40,19 +41,9 @@ some-sectors es k d l =
     let m : k < length es = omega (arith, length-map es extent) in
     subst (λ x. 0 < x.sectors) (sym (get_or-map extent es k no_entry d m)) (omega arith)
 
-clear-pairs : (es : List Entry) → Apart (map extent es) → Pairs Clear (map extent es)
-clear-pairs es a i j d n li lj =
-    let x = get_or (map extent es) i d in
-    let y = get_or (map extent es) j d in
-    let px = some-sectors es i d li in
-    let py = some-sectors es j d lj in
-    elim (cases_order i j) [
-      | inl e ↦ absurd (n e)
-      | inr o ↦ elim o [ inl l ↦ common x y px py (a i j d l lj) | inr l ↦ common x y px py (λ s hx hy. a j i d l li s hy hx) ]
-    ]
-
 pub apart-decided : (es : List Entry) → Decides (apart (map extent es)) (Apart (map extent es))
-apart-decided es = (
-  (λ t i j d l lj. no-common (get_or (map extent es) i d) (get_or (map extent es) j d) (pairs-apart (map extent es) t i j d (λ e. omega arith) (omega arith) lj)),
-  (λ a. apart-pairs (map extent es) (clear-pairs es a)),
-)
+apart-decided es =
+    let xs = map extent es in
+    let apart-from : IsDistinct meets xs → Apart xs = λ t i j d l lj. no-common (get_or xs i d) (get_or xs j d) (not-false _ (apart_from_distinct meets xs i j d t l lj)) in
+    let distinct-from : Apart xs → IsDistinct meets xs = λ a. IsDistinct-from_apart meets xs (λ i j d l lj. ap not (common (get_or xs i d) (get_or xs j d) (some-sectors es i d (omega arith)) (some-sectors es j d lj) (a i j d l lj))) in
+    Decides-like (apart xs) apart-from distinct-from (apart-distinct xs)

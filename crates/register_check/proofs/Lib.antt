@@ -1,5 +1,4 @@
 pub mod Chained
-pub mod Permuted
 pub mod Neighbours
 pub mod Risings
 pub mod RootRules
