@@ -4,7 +4,6 @@ use Rattle.std.proofs.Common.{◌≡◌, ℕ, ◌<◌, Bool, true, false, not, �
 use Rattle.std.specs.Bool.{Decides}
 use Rattle.std.specs.List.{list_all}
 use Rattle.std.proofs.ByRecursion.{Decides-by_and}
-use Rattle.std.proofs.lemmas.Bool.{not-true, not_from_false}
 use Rattle.std.proofs.lemmas.Bool.Decides.{Decides-and, Decides-like, nat_tests}
 use Rattle.names.specs.Names.{is_byte_key}
 use Rattle.names.specs.Orders.{before}
@@ -14,11 +13,8 @@ use Rattle.register.specs.Images.{key_of, leaf_page}
 use Rattle.register_check.specs.Leaves.{EntryRight, LeafRight, under, entry_right, leaf_right}
 use Rattle.register_check.specs.declared.leaves.Limits.{Limits}
 use Rattle.register_check.proofs.Risings.{rising-decided}
-use Rattle.register_check.proofs.RootRules.{same-decided, itself-decided}
+use Rattle.register_check.proofs.RootRules.{same-decided, itself-decided, not-decided}
 use Rattle.register_check.proofs.ExtentRules.{in_place-decided}
-
-not-decided : (b : Bool) → Decides (not b) (b ≡ false)
-not-decided b = (not-true b, not_from_false b)
 
 under-decided : (next : Option (List ℕ)) (k : List ℕ) → Decides (under next k) (Under key_of before next k)
 under-decided None k = ((λ e. tt), (λ u. refl))
@@ -30,10 +26,8 @@ entry-decided l e =
     (Decides-and _ _ (Decides-and _ _ (Decides-and _ _ (itself-decided (is_byte_key e.key)) (not-decided (before e.key l.separator))) (under-decided l.next e.key)) (in_place-decided l.area.first l.area.sectors e))
 
 filled-decided : (single : Bool) (n : ℕ) → Decides (single || not (eqb n 0)) (single ≡ false → 0 < n)
-filled-decided single n = ((λ t e. grind (arith, nat_tests)), (λ h. elim single as (λ b. (b ≡ false → 0 < n) → (b || not (eqb n 0)) ≡ true) [ true ↦ λ k. refl | false ↦ λ k. some n (k refl) ] h))
-  where
-    some : (n : ℕ) → 0 < n → not (eqb n 0) ≡ true
-    some n l = grind (arith, nat_tests)
+filled-decided true n = ((λ t e. cc), (λ h. refl))
+filled-decided false n = ((λ t e. grind (arith, nat_tests)), (λ h. let m = h refl in grind (arith, nat_tests)))
 
 pub leaf-decided : (l : Limits) (single : Bool) (page : List ℕ) (es : List Entry) → Decides (leaf_right l single page es) (LeafRight l single page es)
 leaf-decided l single page es =

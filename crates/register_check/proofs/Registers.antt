@@ -2,10 +2,11 @@
 --     Right            the root and the leaves are right, and extents are apart
 --     kept-from        pages that are right are a register whose files are in place and apart
 --     right-from       and the other way round
-use Rattle.std.proofs.Common.{◌≡◌, ℕ, ◌^◌, ◌<◌, ◌≤◌, Bool, true, false, eqb, List, [], ◌∷◌, map, length, Some, None, Option, sym, refl, ap, subst, inl, inr, arith}
+use Rattle.std.proofs.Common.{◌≡◌, ℕ, ◌^◌, ◌<◌, ◌≤◌, Bool, true, false, eqb, List, [], ◌∷◌, map, length, Some, None, Option, sym, ap, subst, inl, inr, arith}
 use Rattle.std.specs.List.{AllByRecursion}
 use Rattle.std.proofs.ByRecursion.{All-weaker, All-map}
 use Rattle.std.proofs.lemmas.List.{length-map}
+use Rattle.std.proofs.lemmas.Simd.{map-map}
 use Rattle.std.proofs.lemmas.Bool.{both_ways, cases_Bool}
 use Rattle.std.proofs.lemmas.Bool.Decides.{nat_tests}
 use Rattle.names.specs.Names.{is_byte_key}
@@ -33,8 +34,7 @@ every Q (x ∷ xs) h = (h x, every Q xs h)
 
 module _ (images : List (List ℕ)) where
   pages-same : (items : List Item) → pages (map (node_of images) items) ≡ pages_of items
-  pages-same [] = refl
-  pages-same (i ∷ is) = ap (λ ps. i.page ∷ ps) (pages-same is)
+  pages-same items = map-map (λ n. n.page) (node_of images) items
 
   begins-from : (items : List Item) → 1 ≤ length items → Separators items → bound key_of before (map (node_of images) items) None ≡ Some zero_key
   begins-from [] l s = absurd (omega arith)

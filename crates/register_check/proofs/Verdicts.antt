@@ -20,9 +20,7 @@ by_tests r l a = cond r (or_else l (cond a None (Some 0))) (Some 0)
 
 none-parts : (r : Bool) (l : Option ℕ) (a : Bool) → by_tests r l a ≡ None → (r ≡ true) × (l ≡ None) × (a ≡ true)
 none-parts true None true e = (refl, refl, refl)
-none-parts true None false e = cc
-none-parts true (Some p) a e = cc
-none-parts false l a e = cc
+none-parts r l a e = cc
 
 none-from : (r : Bool) (l : Option ℕ) (a : Bool) → r ≡ true → l ≡ None → a ≡ true → by_tests r l a ≡ None
 none-from r l a e f g = grind arith
