@@ -5,7 +5,7 @@
 --     under, entry_right, leaf_right   the tests
 --     next_separator       the first separator of items, if there is one
 --     page_of_item         the page of the item at a place
---     LeafAt, leaf_at      the leaf of the item at a place is right, and the test
+--     LeafAt               the leaf of the item at a place is right
 use Rattle.std.specs.Prelude.{◌≡◌, ℕ, suc, ◌<◌, Bool, true, false, not, ◌&&◌, ◌||◌, List, [], ◌∷◌, length, drop, Some, None, Option, ◌==◌, nat_eq, slice_index_or}
 use Rattle.std.specs.Cmp.Lexicographic.{pointwise}
 use Rattle.std.specs.List.{list_all, AllByRecursion}
@@ -58,6 +58,3 @@ module _ (first sectors : ℕ) (single : Bool) (images : List (List ℕ)) (items
 
   abbrev pub LeafAt : Type 0
   LeafAt = LeafRight limits_at single (page_at images (page_of_item items k)) (leaf_of images (page_of_item items k))
-
-  abbrev pub leaf_at : Bool
-  leaf_at = leaf_right limits_at single (page_at images (page_of_item items k)) (leaf_of images (page_of_item items k))
