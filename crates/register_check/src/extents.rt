@@ -13,7 +13,7 @@ pub(crate) struct Extent {
     pub sectors: u32,
 }
 
-// The extent of an entry's file.
+// The extent of an entry's file, also of one that is longer than a file may be.
 impl From<&Entry> for Extent {
     ghost from_gives = { λ entry x. x ≡ extent entry.now };
 
