@@ -1,11 +1,11 @@
 -- What the tests of extents say.
 --     in_place-decided     the test of one entry's extent decides whether it is in place
 --     apart-decided        the test of the extents of entries decides whether they are apart
-use Rattle.std.proofs.Common.{◌≡◌, ℕ, ◌+◌, ◌<◌, max, true, not, List, map, length, get_or, inl, inr, sym, ap, subst, arith}
+use Rattle.std.proofs.Common.{◌≡◌, ℕ, ◌+◌, ◌<◌, max, true, not, List, map, length, get_or, sym, ap, subst, arith}
 use Rattle.std.specs.Bool.{Decides}
 use Rattle.std.specs.List.{IsDistinct}
-use Rattle.std.proofs.lemmas.Bool.{or_parts, or_cases, leb-true, leb-false, true_from_ne_false, not-false}
-use Rattle.std.proofs.lemmas.Bool.Decides.{Decides-and, Decides-like}
+use Rattle.std.proofs.lemmas.Bool.{or_parts, leb-false, true_from_ne_false, not-false}
+use Rattle.std.proofs.lemmas.Bool.Decides.{Decides-and, Decides-like, nat_tests}
 use Rattle.std.proofs.lemmas.List.{get_or-map, length-map}
 use Rattle.std.proofs.lemmas.Map.Keys.{apart_from_distinct, IsDistinct-from_apart}
 use Rattle.geometry.specs.Sizes.{longest, extent_of}
@@ -23,9 +23,7 @@ in_place-decided first sectors e =
 
 -- extents that are clear have no sector in common
 no-common : (x y : Extent) → clear x y ≡ true → (s : ℕ) → Holds x s → Holds y s → ⊥
-no-common x y c s hx hy =
-    elim (or_cases (ends_by x y.start) (ends_by y x.start) c)
-    [ inl e ↦ omega (arith, leb-true (x.start + x.sectors) y.start e) | inr e ↦ omega (arith, leb-true (y.start + y.sectors) x.start e) ]
+no-common x y c s hx hy = grind (arith, nat_tests)
 
 -- and of two that are not, the later begin is in both
 common : (x y : Extent) → 0 < x.sectors → 0 < y.sectors → ((s : ℕ) → Holds x s → Holds y s → ⊥) → clear x y ≡ true
