@@ -1,6 +1,7 @@
 -- What a call does to the disk below is what the window's call does to the window.
 --     part-cut                                         the cut rule below is the cut rule of the window, where a neighbour outside is not seen
---     window-reads, window-writes, window-spoils       each call's rule
+--     reads-retold, writes-retold, spoils-retold       each call's rule, at the answer of the disk below, retold
+--     window-reads, window-writes, window-spoils       the same at the answer that the window gives
 use Rattle.std.proofs.Common.{◌≡◌, ℕ, zero, suc, ◌+◌, ◌-◌, ◌<◌, ◌≤◌, List, [], ◌∷◌, take, drop, set, Ok, Err, refl, ap, ◌∙◌, ⊎_elim, arith}
 use Rattle.std.proofs.lemmas.List.{get_or-take, get_or-drop, drop-set-add, drop-set-lt}
 use Rattle.std.proofs.lemmas.Bool.{cases_lt}
@@ -100,7 +101,6 @@ module _ (f n : ℕ) where
   spoils-retold i at d e (Err (Unreadable q)) p h = h
   spoils-retold i at d e (Err NoSuchSector) p h = (past i at d p h.0, ap (windowed f n) h.1)
 
-  -- the same at the answer that the window gives
   pub window-reads : (i at : ℕ) (d e : DiskState) (old new : List ℕ) (r q : Answer)
       → q ≡ retold i r → Placed f n i d at → Reads at d old r e new → Reads i (windowed f n d) old q (windowed f n e) new
   window-reads i at d e old new r q is p h = rw is (reads-retold i at d e old new r p h)
