@@ -89,7 +89,7 @@ fn write_fields<W: fmt::Write>(f: &mut fmt::Formatter<W>, tagged: &Tagged) -> fm
             )
         }
         Tagged::Anchor(anchor) => {
-            let third = anchor.third.number();
+            let third = u8::from(anchor.third);
             let group = anchor.group;
             write!(f, "anchor  third {third:<3} group {group:<22}")
         }

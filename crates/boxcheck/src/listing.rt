@@ -3,6 +3,7 @@ use disk::disks::Disk;
 use disk::faults::Fault;
 use geometry::third::Third;
 use layout::anchor::Anchor;
+use layout::carried::Carried;
 use layout::end::RecordEnd;
 use layout::head::RecordHead;
 use layout::header::Header;

@@ -9,7 +9,7 @@ use crate::third::Third;
 use refusal::Refusal;
 
 /// The number of pages P, the sectors T of a third and the sectors N of the disk. Every value of it is good.
-#[derive(Clone, Copy)]
+#[derive(Clone, Copy, PartialEq, Eq, Debug)]
 pub struct Geometry {
     pub pages: u32,
     pub third: u32,
@@ -23,19 +23,10 @@ impl Geometry {
         ensures made { elim result [ Ok g ↦ (g.pages ≡ pages) × (g.third ≡ third) × (g.sectors ≡ sectors) × Good pages third sectors | Err x ↦ (x ≡ BadNumbers) × (Good pages third sectors → ⊥) ] }
         ensures regions { elim result [ Ok g ↦ Apart pages third sectors | Err x ↦ (x ≡ BadNumbers) ] }
     {
-        if pages < 2 {
-            return Err(Refusal::BadNumbers);
-        }
-        if pages > 21 {
-            return Err(Refusal::BadNumbers);
-        }
-        if third < 2 * pages + 6 {
-            return Err(Refusal::BadNumbers);
-        }
-        if third > 1000 {
-            return Err(Refusal::BadNumbers);
-        }
-        if sectors < 8 + 3 * third + 2 * (pages + 1) + 2 {
+        if !(2..=21).contains(&pages)
+            || !(2 * pages + 6..=1000).contains(&third)
+            || sectors < 8 + 3 * third + 2 * (pages + 1) + 2
+        {
             return Err(Refusal::BadNumbers);
         }
         Ok(Geometry {
@@ -49,7 +40,7 @@ impl Geometry {
     pub fn third_start(&self, third: Third) -> u32
         ensures { result ≡ third_start self.now.third (number_of third) }
     {
-        8 + u32::from(third.number()) * self.third
+        8 + u32::from(u8::from(third)) * self.third
     }
 
     /// The last sector of a third, which is never used.

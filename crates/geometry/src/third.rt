@@ -1,5 +1,5 @@
 // The three thirds of the log.
-ghost use Rattle.std.specs.Prelude.{◌≡◌};
+ghost use Rattle.std.specs.Prelude.{◌≡◌, Some, None, MatchResult};
 ghost use Rattle.geometry.specs.Thirds.{number_of, third_of, next_of};
 
 /// One of the thirds that the log is written in, in turn.
@@ -10,30 +10,34 @@ pub enum Third {
     Two,
 }
 
-impl Third {
-    /// The third's number, 0 to 2.
-    pub fn number(self) -> u8
-        ensures { result ≡ number_of self }
-    {
-        match self {
-            Third::Zero => 0,
-            Third::One => 1,
-            Third::Two => 2,
-        }
-    }
+/// A number that no third has.
+#[derive(Clone, Copy, PartialEq, Eq, Debug)]
+pub struct NoSuchThird(pub u8);
 
-    /// The third with this number, if there is one.
-    pub fn from_number(number: u8) -> Option<Third>
-        ensures { result ≡ third_of number }
-    {
+impl From<Third> for u8 {
+    ghost from_gives = { λ third number. number ≡ number_of third };
+
+    fn from(third: Third) -> u8 {
+        third as u8
+    }
+}
+
+impl TryFrom<u8> for Third {
+    type Error = NoSuchThird;
+
+    ghost try_from_gives = { λ number r. MatchResult r (λ third. third_of number ≡ Some third) (λ e. (e.0 ≡ number) × (third_of number ≡ None)) };
+
+    fn try_from(number: u8) -> Result<Third, NoSuchThird> {
         match number {
-            0 => Some(Third::Zero),
-            1 => Some(Third::One),
-            2 => Some(Third::Two),
-            _ => None,
+            0 => Ok(Third::Zero),
+            1 => Ok(Third::One),
+            2 => Ok(Third::Two),
+            _ => Err(NoSuchThird(number)),
         }
     }
+}
 
+impl Third {
     /// The third after this one. 0 follows 2.
     pub fn next(self) -> Third
         ensures { result ≡ next_of self }

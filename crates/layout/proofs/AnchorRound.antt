@@ -43,8 +43,8 @@ anchor-exact s a long small e =
     let fields : gets 9 0 s ≡ 70 ∷ 83 ∷ 68 ∷ 65 ∷ number_of a.third ∷ four_bytes a.group = cc in
     (group, padded-gets 9 s long (omega arith) tests.1 ∙ ap padded fields)
 
-pub anchor-decodes : (s : List ℕ) → length s ≡ 512 → ((k : ℕ) → get_or s k 0 < 256) → Decodes AnchorFits encode_anchor s (decode_anchor s)
-anchor-decodes s long small = record {
-  round = λ a fits is. ap decode_anchor is ∙ anchor-round a fits;
-  exact = λ a e. anchor-exact s a long small e;
+pub anchor-decodes : {s : List ℕ} {r : Option Anchor} → length s ≡ 512 → ((k : ℕ) → get_or s k 0 < 256) → r ≡ decode_anchor s → Decodes AnchorFits encode_anchor s r
+anchor-decodes {s} {r} long small is = record {
+  round = λ x fits at. is ∙ ap decode_anchor at ∙ anchor-round x fits;
+  exact = λ x e. anchor-exact s x long small (sym is ∙ e);
 }

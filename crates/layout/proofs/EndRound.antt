@@ -1,5 +1,5 @@
 -- A record's end comes back from its sector, and from no other.
-use Rattle.std.proofs.Common.{◌≡◌, ℕ, ◌<◌, true, ◌&&◌, List, [], ◌∷◌, ◌++◌, length, get_or, drop, replicate, Some, sym, refl, ap, ◌∙◌, arith}
+use Rattle.std.proofs.Common.{◌≡◌, ℕ, ◌<◌, true, ◌&&◌, List, [], ◌∷◌, ◌++◌, length, get_or, drop, replicate, Some, Option, sym, refl, ap, ◌∙◌, arith}
 use Rattle.layout.specs.Padded.{padded, all_zeros, four_bytes, number4, tag_is, Decodes}
 use Rattle.layout.specs.Ends.{EndFits, encode_end, decode_end}
 use Rattle.layout.specs.declared.end.RecordEnd.{RecordEnd}
@@ -27,5 +27,8 @@ end-exact s e long small is =
       padded-gets 9 s long (omega arith) tests.1 ∙ ap padded fields,
     )
 
-pub end-decodes : (s : List ℕ) → length s ≡ 512 → ((k : ℕ) → get_or s k 0 < 256) → Decodes EndFits encode_end s (decode_end s)
-end-decodes s long small = record { round = λ e fits is. ap decode_end is ∙ end-round e fits; exact = λ e is. end-exact s e long small is }
+pub end-decodes : {s : List ℕ} {r : Option RecordEnd} → length s ≡ 512 → ((k : ℕ) → get_or s k 0 < 256) → r ≡ decode_end s → Decodes EndFits encode_end s r
+end-decodes {s} {r} long small is = record {
+  round = λ x fits at. is ∙ ap decode_end at ∙ end-round x fits;
+  exact = λ x e. end-exact s x long small (sym is ∙ e);
+}

@@ -1,33 +1,19 @@
 -- A record's head comes back from its sector, and from no other.
---     head-is, head-zeros, head-none, head-pages   the head with given numbers, and the three ways in which it is not right
-use Rattle.std.proofs.Common.{◌≡◌, ℕ, ◌-◌, ◌<◌, ◌≤◌, true, false, ◌&&◌, leb, List, [], ◌∷◌, ◌++◌, length, get_or, take, drop, replicate, Some, None, sym, ap, ◌∙◌, ap₂, arith, take-add}
+use Rattle.std.proofs.Common.{◌≡◌, ℕ, ◌-◌, ◌<◌, ◌≤◌, true, ◌&&◌, leb, List, [], ◌∷◌, ◌++◌, length, get_or, take, drop, replicate, Some, Option, sym, ap, ◌∙◌, ap₂, arith, take-add}
 use Rattle.std.proofs.lemmas.List.{take_at, drop_at, drop-drop, length-drop, length-take}
 use Rattle.std.proofs.lemmas.Bool.Decides.{nat_tests}
 use Rattle.layout.specs.Padded.{padded, all_zeros, four_bytes, number4, tag_is, Decodes}
 use Rattle.layout.specs.Heads.{good_pages, HeadFits, encode_head, head_of, decode_head}
 use Rattle.layout.specs.declared.head.RecordHead.{RecordHead}
-use Rattle.layout.proofs.Numbers.{four-number, four-back, opened, shut, was-open, both-true, two-true, false-right, tag-letters}
+use Rattle.layout.proofs.Numbers.{four-number, four-back, was-open, both-true, tag-letters}
 use Rattle.layout.proofs.Zeros.{gets, gets-take, padded-front, zeros-replicate}
 
 abbrev made : ℕ → ℕ → List ℕ → RecordHead
 made group count pages = record { group = group; count = count; pages = pages }
 
-module _ (limit group count : ℕ) (rest : List ℕ) where
-  pub head-zeros : all_zeros (drop 21 rest) ≡ false → head_of limit group count rest ≡ None
-  head-zeros z = rw z
-
-  pub head-none : count ≡ 0 → head_of limit group count rest ≡ None
-  head-none e =
-      let test : leb 1 count ≡ false = grind (arith, nat_tests) in
-      shut (all_zeros (drop 21 rest)) _ _ _ (rw test)
-
-  pub head-pages : good_pages count 0 limit (take 21 rest) ≡ false → head_of limit group count rest ≡ None
-  head-pages bad = shut (all_zeros (drop 21 rest)) _ _ _ (false-right (leb 1 count) (good_pages count 0 limit (take 21 rest)) bad)
-
-  pub head-is : all_zeros (drop 21 rest) ≡ true → 1 ≤ count → good_pages count 0 limit (take 21 rest) ≡ true → head_of limit group count rest ≡ Some (made group count (take 21 rest))
-  head-is z one good =
-      let test : leb 1 count ≡ true = grind (arith, nat_tests) in
-      opened (all_zeros (drop 21 rest)) _ _ _ z (two-true (leb 1 count) (good_pages count 0 limit (take 21 rest)) test good)
+head-is : (limit group count : ℕ) (rest : List ℕ) → all_zeros (drop 21 rest) ≡ true → 1 ≤ count → good_pages count 0 limit (take 21 rest) ≡ true
+    → head_of limit group count rest ≡ Some (made group count (take 21 rest))
+head-is limit group count rest z one good = grind (arith, nat_tests)
 
 head-round : (limit : ℕ) (h : RecordHead) → HeadFits limit h → decode_head limit (encode_head h) ≡ Some h
 unfolding padded
@@ -69,5 +55,8 @@ head-exact limit s h long small is =
       padded-front 30 s long (omega arith) zeros ∙ ap padded (thirty s long ∙ ap₂ (λ a b. a ++ b) fields (sym pages)),
     )
 
-pub head-decodes : (limit : ℕ) (s : List ℕ) → length s ≡ 512 → ((k : ℕ) → get_or s k 0 < 256) → Decodes (HeadFits limit) encode_head s (decode_head limit s)
-head-decodes limit s long small = record { round = λ h fits is. ap (decode_head limit) is ∙ head-round limit h fits; exact = λ h is. head-exact limit s h long small is }
+pub head-decodes : (limit : ℕ) {s : List ℕ} {r : Option RecordHead} → length s ≡ 512 → ((k : ℕ) → get_or s k 0 < 256) → r ≡ decode_head limit s → Decodes (HeadFits limit) encode_head s r
+head-decodes limit {s} {r} long small is = record {
+  round = λ x fits at. is ∙ ap (decode_head limit) at ∙ head-round limit x fits;
+  exact = λ x e. head-exact limit s x long small (sym is ∙ e);
+}

@@ -1,12 +1,12 @@
 -- A header comes back from its sector, and from no other.
-use Rattle.std.proofs.Common.{◌≡◌, ℕ, ◌+◌, ◌*◌, ◌^◌, ◌<◌, Bool, true, false, ◌&&◌, eqb, leb, List, ◌∷◌, ◌++◌, length, get_or, drop, replicate, Some, None, sym, refl, ap, ◌∙◌, ap₂, arith}
+use Rattle.std.proofs.Common.{◌≡◌, ℕ, ◌+◌, ◌*◌, ◌^◌, ◌<◌, true, ◌&&◌, eqb, leb, List, ◌∷◌, ◌++◌, length, get_or, drop, replicate, Some, Option, sym, refl, ap, ◌∙◌, ap₂, arith}
 use Rattle.std.proofs.lemmas.Bool.Decides.{nat_tests, Decides-eqb}
 use Rattle.geometry.specs.Places.{Good}
 use Rattle.layout.specs.Padded.{padded, all_zeros, four_bytes, number4, tag_is, Decodes}
 use Rattle.names.specs.Names.{two_bytes}
 use Rattle.layout.specs.Headers.{HeaderFits, encode_header, good_numbers, header_of, decode_header}
 use Rattle.layout.specs.declared.header.Header.{Header}
-use Rattle.layout.proofs.Numbers.{two-number, two-back, four-number, four-back, opened, shut, was-open, both-true, tag-letters}
+use Rattle.layout.proofs.Numbers.{two-number, two-back, four-number, four-back, opened, was-open, both-true, tag-letters}
 use Rattle.layout.proofs.Zeros.{gets, padded-gets, zeros-replicate}
 
 good-passes : (p t n : ℕ) → Good p t n → good_numbers p t n ≡ true
@@ -20,17 +20,10 @@ passes-good p t n h =
     let d = both-true (leb t 1000) _ c.1 in
     (grind (arith, nat_tests, a.0), grind (arith, nat_tests, b.0), grind (arith, nat_tests, c.0), grind (arith, nat_tests, d.0), grind (arith, nat_tests, d.1))
 
-pub right-numbers : (count p t n : ℕ) → n ≡ count → Good p t n → header_of count p t n ≡ Some (record { pages = p; third = t; sectors = n })
+right-numbers : (count p t n : ℕ) → n ≡ count → Good p t n → header_of count p t n ≡ Some (record { pages = p; third = t; sectors = n })
 right-numbers count p t n is good =
     let same : eqb n count ≡ true = grind (arith, nat_tests) in
     opened (eqb n count) (good_numbers p t n) _ _ same (good-passes p t n good)
-
-pub wrong-numbers : (count p t n : ℕ) → (Good p t n → ⊥) → header_of count p t n ≡ None
-wrong-numbers count p t n bad = by-test (good_numbers p t n) refl
-  where
-    by-test : (b : Bool) → good_numbers p t n ≡ b → header_of count p t n ≡ None
-    by-test true e = absurd (bad (passes-good p t n e))
-    by-test false e = shut (eqb n count) (good_numbers p t n) _ _ e
 
 abbrev made : ℕ → ℕ → ℕ → Header
 made p t n = record { pages = p; third = t; sectors = n }
@@ -52,9 +45,9 @@ header-round count h fits =
     ∙ ap₂ (λ t n. header_of count p t n) (two-number h.third third) (four-number h.sectors sectors)
     ∙ right-numbers count p h.third h.sectors fits.1 fits.0
 
-header-exact : (count : ℕ) (s : List ℕ) (h : Header) → count < 2 ^ 32 → length s ≡ 512 → ((k : ℕ) → get_or s k 0 < 256) → decode_header count s ≡ Some h
+header-exact : (count : ℕ) (s : List ℕ) (h : Header) → length s ≡ 512 → ((k : ℕ) → get_or s k 0 < 256) → decode_header count s ≡ Some h
     → HeaderFits count h × (s ≡ encode_header h)
-header-exact count s h low long small is =
+header-exact count s h long small is =
     let open-at = was-open (tag_is 70 83 68 86 s && (eqb (get_or s 4 0) 1 && all_zeros (drop 12 s))) _ h is in
     let tests = both-true (tag_is 70 83 68 86 s) (eqb (get_or s 4 0) 1 && all_zeros (drop 12 s)) open-at.0 in
     let more = both-true (eqb (get_or s 4 0) 1) (all_zeros (drop 12 s)) tests.1 in
@@ -74,13 +67,13 @@ header-exact count s h low long small is =
       (
         (omega (arith, pages, good.0), omega (arith, pages, good.1), omega (arith, pages, third, good.2), omega (arith, third, good.3), omega (arith, pages, third, sectors, good.4)),
         sym sectors ∙ part.1,
-        low,
+        omega (arith, part.1, small 8, small 9, small 10, small 11),
       ),
       padded-gets 12 s long (omega arith) more.1 ∙ ap padded fields,
     )
 
-pub header-decodes : (count : ℕ) (s : List ℕ) → count < 2 ^ 32 → length s ≡ 512 → ((k : ℕ) → get_or s k 0 < 256) → Decodes (HeaderFits count) encode_header s (decode_header count s)
-header-decodes count s low long small = record {
-  round = λ h fits is. ap (decode_header count) is ∙ header-round count h fits;
-  exact = λ h is. header-exact count s h low long small is;
+pub header-decodes : (count : ℕ) {s : List ℕ} {r : Option Header} → length s ≡ 512 → ((k : ℕ) → get_or s k 0 < 256) → r ≡ decode_header count s → Decodes (HeaderFits count) encode_header s r
+header-decodes count {s} {r} long small is = record {
+  round = λ x fits at. is ∙ ap (decode_header count) at ∙ header-round count x fits;
+  exact = λ x e. header-exact count s x long small (sym is ∙ e);
 }

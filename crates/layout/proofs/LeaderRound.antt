@@ -1,6 +1,5 @@
 -- A leader comes back from its sector, and from no other.
---     leader-is, leader-zeros, leader-long, leader-key     the leader in given bytes, and the three ways in which it is not right
-use Rattle.std.proofs.Common.{◌≡◌, ℕ, ◌+◌, ◌-◌, ◌/◌, ◌%◌, ◌^◌, ◌<◌, ◌≤◌, true, false, ◌&&◌, leb, List, [], ◌∷◌, ◌++◌, length, get_or, take, drop, replicate, Some, None, sym, ap, ◌∙◌, ap₂, arith, take-add}
+use Rattle.std.proofs.Common.{◌≡◌, ℕ, ◌+◌, ◌-◌, ◌/◌, ◌%◌, ◌^◌, ◌<◌, ◌≤◌, true, ◌&&◌, leb, List, [], ◌∷◌, ◌++◌, length, get_or, take, drop, replicate, Some, Option, sym, ap, ◌∙◌, ap₂, arith, take-add}
 use Rattle.std.proofs.lemmas.List.{take_at, drop_at, drop-drop, append_assoc, get_or-append_right, get_or-drop, length-drop}
 use Rattle.std.proofs.lemmas.Bool.Decides.{nat_tests}
 use Rattle.geometry.specs.Sizes.{longest}
@@ -8,28 +7,16 @@ use Rattle.names.specs.Names.{is_key}
 use Rattle.layout.specs.Padded.{padded, all_zeros, four_bytes, tag_is, Decodes}
 use Rattle.layout.specs.Leaders.{LeaderFits, encode_leader, length_of, leader_of, decode_leader}
 use Rattle.layout.specs.declared.leader.Leader.{Leader}
-use Rattle.layout.proofs.Numbers.{four-number, four-back, opened, shut, was-open, both-true, two-true, false-right, tag-letters}
+use Rattle.layout.proofs.Numbers.{four-number, four-back, opened, was-open, both-true, two-true, tag-letters}
 use Rattle.layout.proofs.Zeros.{gets, gets-take, padded-front, zeros-replicate}
 
 abbrev made : List ℕ → ℕ → Leader
 made key n = record { key = key; length = n }
 
-module _ (rest : List ℕ) where
-  pub leader-zeros : all_zeros (drop 26 rest) ≡ false → leader_of rest ≡ None
-  leader-zeros z = rw z
-
-  pub leader-long : longest < length_of rest → leader_of rest ≡ None
-  leader-long h =
-      let test : leb (length_of rest) longest ≡ false = grind (arith, nat_tests) in
-      shut (all_zeros (drop 26 rest)) _ _ _ (rw test)
-
-  pub leader-key : is_key (take 22 rest) ≡ false → leader_of rest ≡ None
-  leader-key bad = shut (all_zeros (drop 26 rest)) _ _ _ (false-right (leb (length_of rest) longest) (is_key (take 22 rest)) bad)
-
-  pub leader-is : all_zeros (drop 26 rest) ≡ true → length_of rest ≤ longest → is_key (take 22 rest) ≡ true → leader_of rest ≡ Some (made (take 22 rest) (length_of rest))
-  leader-is z short key =
-      let test : leb (length_of rest) longest ≡ true = grind (arith, nat_tests) in
-      opened (all_zeros (drop 26 rest)) _ _ _ z (two-true (leb (length_of rest) longest) (is_key (take 22 rest)) test key)
+leader-is : (rest : List ℕ) → all_zeros (drop 26 rest) ≡ true → length_of rest ≤ longest → is_key (take 22 rest) ≡ true → leader_of rest ≡ Some (made (take 22 rest) (length_of rest))
+leader-is rest z short key =
+    let test : leb (length_of rest) longest ≡ true = grind (arith, nat_tests) in
+    opened (all_zeros (drop 26 rest)) _ _ _ z (two-true (leb (length_of rest) longest) (is_key (take 22 rest)) test key)
 
 -- A key has 22 bytes.
 key-length : (k : List ℕ) → is_key k ≡ true → length k ≡ 22
@@ -83,5 +70,8 @@ leader-exact s l long small is =
     take-add 4 26 s ∙ ap₂ (λ a b. a ++ b) (gets-take 4 0 s (omega arith) ∙ tag) after in
     ((ap is_key key ∙ more.1, omega (arith, size)), padded-front 30 s long (omega arith) zeros ∙ ap padded front)
 
-pub leader-decodes : (s : List ℕ) → length s ≡ 512 → ((k : ℕ) → get_or s k 0 < 256) → Decodes LeaderFits encode_leader s (decode_leader s)
-leader-decodes s long small = record { round = λ l fits is. ap decode_leader is ∙ leader-round l fits; exact = λ l is. leader-exact s l long small is }
+pub leader-decodes : {s : List ℕ} {r : Option Leader} → length s ≡ 512 → ((k : ℕ) → get_or s k 0 < 256) → r ≡ decode_leader s → Decodes LeaderFits encode_leader s r
+leader-decodes {s} {r} long small is = record {
+  round = λ x fits at. is ∙ ap decode_leader at ∙ leader-round x fits;
+  exact = λ x e. leader-exact s x long small (sym is ∙ e);
+}

@@ -1,45 +1,31 @@
--- The page numbers of a head, one at a time.
---     pages-rest               no number is left: the rest is zeros
---     pages-low, pages-high    a number that is too low or too high
---     pages-more               a number that is good
---     pages-many               more numbers are wanted than stand there
-use Rattle.std.proofs.Common.{◌≡◌, ℕ, zero, suc, ◌+◌, ◌-◌, ◌<◌, ◌≤◌, true, false, ◌&&◌, ltb, leb, List, [], ◌∷◌, length, get_or, drop, refl, ap, ◌∙◌, arith}
-use Rattle.std.proofs.lemmas.List.{drop_more}
+-- The page numbers of a head: the listed ones, and the others after them.
+--     rises-answer    the test of neighbours tells whether the numbers rise
+--     pages-many      more numbers are wanted than stand there
+--     pages-split     the listed numbers rise and are below the limit, and the others are zeros
+use Rattle.std.proofs.Common.{◌≡◌, ℕ, zero, suc, ◌+◌, ◌<◌, ◌≤◌, Bool, true, false, ◌&&◌, ltb, leb, List, [], ◌∷◌, ◌++◌, length, get_or, sym, refl, ap₂, ◌∙◌, add-one, arith}
+use Rattle.std.specs.List.{IsSplitAt, IsAllAdjacentAnswer, list_all}
+use Rattle.std.proofs.lemmas.List.{take-append-drop}
 use Rattle.std.proofs.lemmas.Bool.Decides.{nat_tests}
 use Rattle.layout.specs.Padded.{all_zeros}
-use Rattle.layout.specs.Heads.{good_pages}
+use Rattle.layout.specs.Heads.{rises, good_pages}
 use Rattle.layout.proofs.Numbers.{false-right}
 
-pub pages-rest : (left low limit : ℕ) (ps : List ℕ) → left ≡ 0 → good_pages left low limit ps ≡ all_zeros ps
-unfolding good_pages
-pages-rest left low limit ps e = rw e
+rises-true : (low : ℕ) (xs : List ℕ) → (0 < length xs → low ≤ get_or xs 0 0) → ((k : ℕ) → suc k < length xs → get_or xs k 0 < get_or xs (suc k) 0) → rises low xs ≡ true
+rises-true low [] first up = refl
+rises-true low (x ∷ xs) first up =
+    let more = rises-true (x + 1) xs (λ h. let u = up 0 (omega arith) in omega arith) (λ k h. up (suc k) (omega arith)) in
+    let test : low ≤ x = first (omega arith) in
+    grind (arith, nat_tests)
 
-step : (left low limit x : ℕ) (xs : List ℕ) → (left ≡ 0 → ⊥) → good_pages left low limit (x ∷ xs) ≡ (leb low x && (ltb x limit && good_pages (left - 1) (x + 1) limit xs))
-unfolding good_pages
-step zero low limit x xs ne = absurd (ne refl)
-step (suc n) low limit x xs ne =
-    let one : n ≡ suc n - 1 = omega arith in
-    ap (λ m. leb low x && (ltb x limit && good_pages m (x + 1) limit xs)) one
+rises-false : (low k : ℕ) (xs : List ℕ) → suc k < length xs → (get_or xs k 0 < get_or xs (suc k) 0 → ⊥) → rises low xs ≡ false
+rises-false low k [] within not = absurd (omega arith)
+rises-false low k (x ∷ []) within not = absurd (omega arith)
+rises-false low zero (x ∷ y ∷ xs) within not = grind (arith, nat_tests)
+rises-false low (suc k) (x ∷ y ∷ xs) within not = false-right (leb low x) _ (rises-false (x + 1) k (y ∷ xs) (omega arith) not)
 
-module _ (ps : List ℕ) (i left low limit : ℕ) (within : i < length ps) (ne : left ≡ 0 → ⊥) where
-  at : good_pages left low limit (drop i ps)
-      ≡ (leb low (get_or ps i 0) && (ltb (get_or ps i 0) limit && good_pages (left - 1) (get_or ps i 0 + 1) limit (drop (i + 1) ps)))
-  at = ap (good_pages left low limit) (drop_more ps i 0 within) ∙ step left low limit (get_or ps i 0) (drop (i + 1) ps) ne
-
-  pub pages-low : get_or ps i 0 < low → good_pages left low limit (drop i ps) ≡ false
-  pages-low h = let test : leb low (get_or ps i 0) ≡ false = grind (arith, nat_tests) in at ∙ rw test
-
-  pub pages-high : limit ≤ get_or ps i 0 → good_pages left low limit (drop i ps) ≡ false
-  pages-high h =
-      let test : ltb (get_or ps i 0) limit ≡ false = grind (arith, nat_tests) in
-      at ∙ false-right (leb low (get_or ps i 0)) _ (rw test)
-
-  pub pages-more : low ≤ get_or ps i 0 → get_or ps i 0 < limit
-      → good_pages left low limit (drop i ps) ≡ good_pages (left - 1) (get_or ps i 0 + 1) limit (drop (i + 1) ps)
-  pages-more h k =
-      let a : leb low (get_or ps i 0) ≡ true = grind (arith, nat_tests) in
-      let b : ltb (get_or ps i 0) limit ≡ true = grind (arith, nat_tests) in
-      at ∙ rw (a, b)
+pub rises-answer : (xs : List ℕ) (r : Bool) → IsAllAdjacentAnswer (λ x y b. b ≡ ltb x y) xs r → r ≡ rises 0 xs
+rises-answer xs true up = sym (rises-true 0 xs (λ h. omega arith) (λ k h. let u = up k 0 (rw (add-one k) h) in grind (arith, nat_tests)))
+rises-answer xs false (k, within, down) = sym (rises-false 0 k xs (omega arith) (rw (← add-one k) (let d = down 0 in λ u. grind (arith, nat_tests))))
 
 pub pages-many : (ps : List ℕ) (left low limit : ℕ) → length ps < left → good_pages left low limit ps ≡ false
 unfolding good_pages
@@ -47,3 +33,13 @@ pages-many [] zero low limit h = absurd (omega arith)
 pages-many [] (suc n) low limit h = refl
 pages-many (p ∷ ps) zero low limit h = absurd (omega arith)
 pages-many (p ∷ ps) (suc n) low limit h = false-right (leb low p) _ (false-right (ltb p limit) _ (pages-many ps n (p + 1) limit (omega arith)))
+
+listed-first : (low limit : ℕ) (xs others : List ℕ) → good_pages (length xs) low limit (xs ++ others) ≡ (rises low xs && (list_all (λ p. ltb p limit) xs && all_zeros others))
+unfolding good_pages
+listed-first low limit [] others = refl
+listed-first low limit (x ∷ xs) others = let h = listed-first (x + 1) limit xs others in grind (arith, nat_tests)
+
+pub pages-split : (ps : List ℕ) (count limit : ℕ) (listed others : List ℕ) → IsSplitAt ps count listed others
+    → good_pages count 0 limit ps ≡ (rises 0 listed && (list_all (λ p. ltb p limit) listed && all_zeros others))
+pages-split ps count limit listed others split =
+    ap₂ (λ n l. good_pages n 0 limit l) (sym split.3) (sym (take-append-drop count ps) ∙ ap₂ (λ a b. a ++ b) (sym split.1) (sym split.2)) ∙ listed-first 0 limit listed others

@@ -1,4 +1,5 @@
 -- The head of a record: "FSDH", the group number (4 bytes), the number n of pages (1), the n page numbers (1 each).
+--     rises          numbers rise, from low on
 --     good_pages     n numbers rise from low on and are below the number of pages, and then there are only zeros
 --     HeadFits       a head that is right in a volume of so many pages: 1 to that many, good numbers
 --     encode_head    the sector of a head
@@ -7,6 +8,10 @@
 use Rattle.std.specs.Prelude.{◌≡◌, ℕ, zero, suc, ◌+◌, ◌^◌, ◌<◌, ◌≤◌, Bool, true, false, cond, ◌&&◌, List, [], ◌∷◌, ◌++◌, length, take, drop, Some, None, Option, nat_le, nat_lt, slice_index}
 use Rattle.layout.specs.Padded.{padded, all_zeros, four_bytes, number4, tag_is}
 use Rattle.layout.specs.declared.head.RecordHead.{RecordHead}
+
+abbrev pub rises : ℕ → List ℕ → Bool
+rises low [] = true
+rises low (x ∷ xs) = nat_le low x && rises (x + 1) xs
 
 unfoldable pub good_pages : ℕ → ℕ → ℕ → List ℕ → Bool
 good_pages zero low limit pages = all_zeros pages

@@ -7,19 +7,15 @@ pub(crate) fn fill(sector: &mut [u8; 512], fields: &[u8])
     requires { length fields.now ≤ 512 }
     ensures { sector.new ≡ padded fields.now }
 {
-    let length = fields.len();
-    sector[0..length].copy_from_slice(fields);
-    sector[length..512].fill(0);
+    let (front, back) = sector.split_at_mut(fields.len());
+    front.copy_from_slice(fields);
+    back.fill(0);
 }
 
 // Whether all of the bytes are zero.
+#[tactic(auto, unfolding(crate::specs::Padded::all_zeros))]
 pub(crate) fn are_zeros(bytes: &[u8]) -> bool
     ensures { result ≡ all_zeros bytes.now }
 {
-    for byte in bytes {
-        if *byte != 0 {
-            return false;
-        }
-    }
-    true
+    bytes.iter().all(|byte| *byte == 0)
 }

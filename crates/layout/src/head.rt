@@ -1,48 +1,50 @@
 // The head of a record in the log.
-ghost use Rattle.std.specs.Prelude.{◌≡◌, length};
-ghost use Rattle.layout.specs.Padded.{Decodes};
-ghost use Rattle.layout.specs.Heads.{encode_head, decode_head, head_of, HeadFits, good_pages};
+ghost use Rattle.std.specs.Prelude.{◌≡◌, length, nat_lt};
+ghost use Rattle.std.specs.List.{list_all};
+ghost use Rattle.layout.specs.Heads.{encode_head, decode_head, head_of, HeadFits, good_pages, rises};
 
+use crate::carried::Carried;
 use crate::fill::{are_zeros, fill};
 
 /// The group number of a record, how many pages it has, and their numbers. The places after those are zero.
-#[derive(Clone, Copy)]
+// The numbers stay in an array with their count beside it: that is the stored form, and the decoder says that the places after them are zero.
+#[derive(Clone, Copy, PartialEq, Eq, Debug)]
 pub struct RecordHead {
     pub group: u32,
     pub count: u8,
     pub pages: [u8; 21],
 }
 
-impl RecordHead {
-    /// Fills a sector with this head.
-    pub fn encode(&self, sector: &mut [u8; 512])
-        ensures { sector.new ≡ encode_head self.now }
-    {
+impl Carried for RecordHead {
+    /// The number of the volume's pages.
+    type Known = u8;
+
+    ghost Fits = { HeadFits };
+
+    ghost encoded = { encode_head };
+
+    ghost decoded = { decode_head };
+
+    fn encode(&self, sector: &mut [u8; 512]) {
         let [a, b, c, d] = self.group.to_be_bytes();
         fill(sector, &[b'F', b'S', b'D', b'H', a, b, c, d, self.count]);
         sector[9..30].copy_from_slice(&self.pages);
     }
 
-    /// The head in a sector of a volume of `pages` pages, if the sector is right.
-    pub fn decode(sector: &[u8; 512], pages: u8) -> Option<RecordHead>
-        ensures value { result ≡ decode_head pages sector.now }
-        ensures law { Decodes (HeadFits pages) encode_head sector.now result }
-    {
-        head_in(sector, pages)
+    fn decode(sector: &[u8; 512], limit: u8) -> Option<RecordHead> {
+        head_in(sector, limit)
     }
 }
 
+// The head in the bytes of a sector, if they are right.
 fn head_in(bytes: &[u8], limit: u8) -> Option<RecordHead>
     requires { length bytes.now ≡ 512 }
     ensures { result ≡ decode_head limit bytes.now }
 {
-    match bytes {
-        [b'F', b'S', b'D', b'H', a, b, c, d, count, rest @ ..] => {
-            let group = u32::from_be_bytes([*a, *b, *c, *d]);
-            head_of(group, *count, rest, limit)
-        }
-        _ => None,
-    }
+    let [b'F', b'S', b'D', b'H', a, b, c, d, count, rest @ ..] = bytes else {
+        return None;
+    };
+    head_of(u32::from_be_bytes([*a, *b, *c, *d]), *count, rest, limit)
 }
 
 // The head with these numbers and the bytes after them, if they are right.
@@ -50,21 +52,14 @@ fn head_of(group: u32, count: u8, rest: &[u8], limit: u8) -> Option<RecordHead>
     requires { length rest.now ≡ 503 }
     ensures { result ≡ head_of limit group count rest.now }
 {
-    if !are_zeros(&rest[21..503]) {
-        return None;
-    }
-    if count == 0 {
-        return None;
-    }
-    let mut pages = [0; 21];
-    pages.copy_from_slice(&rest[0..21]);
-    if !are_pages(&pages, count, limit) {
+    let (pages, rest) = rest.split_first_chunk()?;
+    if count == 0 || !are_pages(pages, count, limit) || !are_zeros(rest) {
         return None;
     }
     Some(RecordHead {
         group,
         count,
-        pages,
+        pages: *pages,
     })
 }
 
@@ -72,20 +67,22 @@ fn head_of(group: u32, count: u8, rest: &[u8], limit: u8) -> Option<RecordHead>
 fn are_pages(pages: &[u8; 21], count: u8, limit: u8) -> bool
     ensures { result ≡ good_pages count 0 limit pages.now }
 {
-    let many = usize::from(count);
-    if many > 21 {
+    let Some((listed, others)) = pages.split_at_checked(usize::from(count)) else {
         return false;
-    }
-    let mut low = 0u16;
-    for i in 0..many {
-        let number = u16::from(pages[i]);
-        if number < low {
-            return false;
-        }
-        if number >= u16::from(limit) {
-            return false;
-        }
-        low = number + 1;
-    }
-    are_zeros(&pages[many..21])
+    };
+    rise(listed) && all_below(listed, limit) && are_zeros(others)
+}
+
+// Whether each number is below the next.
+fn rise(pages: &[u8]) -> bool
+    ensures { result ≡ rises 0 pages.now }
+{
+    pages.is_sorted_by(|page, next| page < next)
+}
+
+// Whether each number is below `limit`.
+fn all_below(pages: &[u8], limit: u8) -> bool
+    ensures { result ≡ list_all (λ page. nat_lt page limit) pages.now }
+{
+    pages.iter().all(|page| *page < limit)
 }

@@ -1,47 +1,49 @@
 // The leader: which file an extent belongs to.
 ghost use Rattle.std.specs.Prelude.{◌≡◌, length};
-ghost use Rattle.layout.specs.Padded.{Decodes};
 ghost use Rattle.layout.specs.Leaders.{encode_leader, decode_leader, leader_of, LeaderFits};
 
+use crate::carried::Carried;
 use crate::fill::{are_zeros, fill};
 use geometry::sizes::LONGEST;
 use names::key::Key;
 
 /// The bytes of a file's key, and the file's length.
-#[derive(Clone, Copy)]
+// No Key: a leader may hold bytes that are no key.
+#[derive(Clone, Copy, PartialEq, Eq, Debug)]
 pub struct Leader {
     pub key: [u8; 22],
     pub length: u32,
 }
 
-impl Leader {
-    /// Fills a sector with this leader.
-    pub fn encode(&self, sector: &mut [u8; 512])
-        ensures { sector.new ≡ encode_leader self.now }
-    {
-        let four = self.length.to_be_bytes();
+impl Carried for Leader {
+    type Known = ();
+
+    ghost Fits = { λ _. LeaderFits };
+
+    ghost encoded = { encode_leader };
+
+    ghost decoded = { λ _. decode_leader };
+
+    fn encode(&self, sector: &mut [u8; 512]) {
         fill(sector, b"FSDL");
         sector[4..26].copy_from_slice(&self.key);
-        sector[26..30].copy_from_slice(&four);
+        sector[26..30].copy_from_slice(&self.length.to_be_bytes());
     }
 
-    /// The leader in a sector, if the sector is right.
-    pub fn decode(sector: &[u8; 512]) -> Option<Leader>
-        ensures value { result ≡ decode_leader sector.now }
-        ensures law { Decodes LeaderFits encode_leader sector.now result }
-    {
+    fn decode(sector: &[u8; 512], _known: ()) -> Option<Leader> {
         leader_in(sector)
     }
 }
 
+// The leader in the bytes of a sector, if they are right.
 fn leader_in(bytes: &[u8]) -> Option<Leader>
     requires { length bytes.now ≡ 512 }
     ensures { result ≡ decode_leader bytes.now }
 {
-    match bytes {
-        [b'F', b'S', b'D', b'L', rest @ ..] => leader_of(rest),
-        _ => None,
-    }
+    let [b'F', b'S', b'D', b'L', rest @ ..] = bytes else {
+        return None;
+    };
+    leader_of(rest)
 }
 
 // The leader in the bytes after the letters, if they are right.
@@ -49,17 +51,12 @@ fn leader_of(rest: &[u8]) -> Option<Leader>
     requires { length rest.now ≡ 508 }
     ensures { result ≡ leader_of rest.now }
 {
-    if !are_zeros(&rest[26..508]) {
+    let (key, rest) = rest.split_first_chunk()?;
+    let (length, rest) = rest.split_first_chunk()?;
+    let length = u32::from_be_bytes(*length);
+    if length > LONGEST || !are_zeros(rest) {
         return None;
     }
-    let length = u32::from_be_bytes([rest[22], rest[23], rest[24], rest[25]]);
-    if length > LONGEST {
-        return None;
-    }
-    let mut key = [0; 22];
-    key.copy_from_slice(&rest[0..22]);
-    match Key::from_bytes(&key) {
-        Some(_) => Some(Leader { key, length }),
-        None => None,
-    }
+    Key::from_bytes(key)?;
+    Some(Leader { key: *key, length })
 }

@@ -2,6 +2,7 @@
 #![tactic(auto)]
 
 pub mod anchor;
+pub mod carried;
 pub mod end;
 mod fill;
 pub mod head;

@@ -2,13 +2,14 @@
 ghost use Rattle.layout.specs.Tags.{Carries, Alone};
 
 use crate::anchor::Anchor;
+use crate::carried::Carried;
 use crate::end::RecordEnd;
 use crate::head::RecordHead;
 use crate::header::Header;
 use crate::leader::Leader;
 
 /// What a sector carries.
-#[derive(Clone, Copy)]
+#[derive(Clone, Copy, PartialEq, Eq, Debug)]
 pub enum Tagged {
     Header(Header),
     Anchor(Anchor),
@@ -26,16 +27,16 @@ pub fn tag_of(sector: &[u8; 512], count: u32, pages: u8) -> Tagged
     if let Some(header) = Header::decode(sector, count) {
         return Tagged::Header(header);
     }
-    if let Some(anchor) = Anchor::decode(sector) {
+    if let Some(anchor) = Anchor::decode(sector, ()) {
         return Tagged::Anchor(anchor);
     }
     if let Some(head) = RecordHead::decode(sector, pages) {
         return Tagged::Head(head);
     }
-    if let Some(end) = RecordEnd::decode(sector) {
+    if let Some(end) = RecordEnd::decode(sector, ()) {
         return Tagged::End(end);
     }
-    if let Some(leader) = Leader::decode(sector) {
+    if let Some(leader) = Leader::decode(sector, ()) {
         return Tagged::Leader(leader);
     }
     Tagged::Other

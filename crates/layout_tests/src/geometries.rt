@@ -1,7 +1,7 @@
 // Good numbers of a volume and bad ones, the places that follow from good ones, and the thirds.
 use crate::refused::refused;
 use geometry::geometry::Geometry;
-use geometry::third::Third;
+use geometry::third::{NoSuchThird, Third};
 use std::process::Abort;
 use std::test::Fail;
 
@@ -36,8 +36,8 @@ fn greatest_numbers(rt: HostRuntime) {
 
 // Checks the number of a third, and the third after it.
 fn third(rt: &impl Abort, third: Third, number: u8, next: Third) {
-    assert_eq!(rt; third.number(), number);
-    assert_eq!(rt; Third::from_number(number), Some(third));
+    assert_eq!(rt; u8::from(third), number);
+    assert_eq!(rt; Third::try_from(number), Ok(third));
     assert_eq!(rt; third.next(), next);
 }
 
@@ -46,18 +46,23 @@ fn thirds(rt: HostRuntime) {
     third(&rt, Third::Zero, 0, Third::One);
     third(&rt, Third::One, 1, Third::Two);
     third(&rt, Third::Two, 2, Third::Zero);
-    assert_eq!(rt; Third::from_number(3), None);
+    assert_eq!(rt; Third::try_from(3), Err(NoSuchThird(3)));
 }
+
+// A third, its first sector and its last.
+const THIRDS: [(Third, u32, u32); 3] = [
+    (Third::Zero, 8, 21),
+    (Third::One, 22, 35),
+    (Third::Two, 36, 49),
+];
 
 #[test]
 fn places_of_thirds(rt: HostRuntime) -> Result<(), Fail> {
     let geometry = Geometry::new(4, 14, 120)?;
-    assert_eq!(rt; geometry.third_start(Third::Zero), 8);
-    assert_eq!(rt; geometry.third_start(Third::One), 22);
-    assert_eq!(rt; geometry.third_start(Third::Two), 36);
-    assert_eq!(rt; geometry.last_of(Third::Zero), 21);
-    assert_eq!(rt; geometry.last_of(Third::One), 35);
-    assert_eq!(rt; geometry.last_of(Third::Two), 49);
+    for (third, start, last) in THIRDS {
+        assert_eq!(rt; geometry.third_start(third), start);
+        assert_eq!(rt; geometry.last_of(third), last);
+    }
     Ok(())
 }
 

@@ -20,9 +20,9 @@ fn bytes(rt: HostRuntime) -> Result<(), Fail> {
     let key = key_of(b"R5", 9999)?;
     assert!(rt; key.bytes == *b"R5\0\0\0\0\0\0\0\0\0\0\0\0\0\0\0\0\0\0\x27\x0f");
     assert_eq!(rt; key.version(), 9999);
-    assert!(rt; key.name().bytes == Name::new(b"R5")?.bytes);
-    assert!(rt; Key::from_bytes(&key.bytes).is_some());
-    assert!(rt; Key::from_bytes(&[0; 22]).is_none());
+    assert_eq!(rt; key.name(), Name::new(b"R5")?);
+    assert_eq!(rt; Key::from_bytes(&key.bytes), Some(key));
+    assert_eq!(rt; Key::from_bytes(&[0; 22]), None);
     Ok(())
 }
 
@@ -40,10 +40,9 @@ const ORDER: [Row; 7] = [
 ];
 
 fn check_rows(rt: &impl Abort, rows: &[Row]) -> Result<(), Fail> {
-    for i in 0..rows.len() {
-        let (first, one, second, other) = rows[i];
-        let low = key_of(first, one)?;
-        let high = key_of(second, other)?;
+    for (i, (first, one, second, other)) in rows.iter().enumerate() {
+        let low = key_of(first, *one)?;
+        let high = key_of(second, *other)?;
         assert!(rt; low.before(&high), "{}", i);
         assert!(rt; !high.before(&low), "{}", i);
         assert!(rt; !low.before(&low), "{}", i);

@@ -1,5 +1,6 @@
 // Which keys and lengths a leader may hold.
-use crate::kinds::{Kind, is_right, sector_of};
+use crate::kinds::{is_right, sector_of};
+use layout::carried::Carried;
 use layout::leader::Leader;
 use std::process::Abort;
 
@@ -25,17 +26,16 @@ const ROWS: [Row; 13] = [
 // The leader with these numbers, good or not.
 fn leader_of(name: &[u8], version: u16, length: u32) -> Leader {
     let mut key = [0; 22];
-    key[0..20].copy_from_slice(&sector_of(name)[0..20]);
-    key[20..22].copy_from_slice(&version.to_be_bytes());
+    key[..20].copy_from_slice(&sector_of(name)[..20]);
+    key[20..].copy_from_slice(&version.to_be_bytes());
     Leader { key, length }
 }
 
 fn check_rows(rt: &impl Abort, rows: &[Row]) {
-    for i in 0..rows.len() {
-        let (name, version, length, right) = rows[i];
+    for (i, (name, version, length, right)) in rows.iter().enumerate() {
         let mut sector = [0; 512];
-        leader_of(name, version, length).encode(&mut sector);
-        assert_eq!(rt; is_right(Kind::OfLeader, &sector), right, "{}", i);
+        leader_of(name, *version, *length).encode(&mut sector);
+        assert_eq!(rt; is_right::<Leader>(&sector, ()), *right, "{}", i);
     }
 }
 

@@ -28,9 +28,8 @@ const TEXTS: [Row; 15] = [
 ];
 
 fn check_rows(rt: &impl Abort, rows: &[Row]) {
-    for i in 0..rows.len() {
-        let (text, number) = rows[i];
-        assert_eq!(rt; refused(Name::new(text)), number, "{}", i);
+    for (i, (text, number)) in rows.iter().enumerate() {
+        assert_eq!(rt; refused(Name::new(text)), *number, "{}", i);
     }
 }
 
@@ -43,18 +42,20 @@ fn texts(rt: HostRuntime) {
 fn stored(rt: HostRuntime) -> Result<(), Fail> {
     let name = Name::new(b"R-10")?;
     assert!(rt; name.bytes == *b"R-10\0\0\0\0\0\0\0\0\0\0\0\0\0\0\0\0");
-    let back = Name::from_bytes(&name.bytes).ok_or(Refusal::BadName)?;
-    assert!(rt; back.bytes == name.bytes);
-    assert!(rt; Name::from_bytes(&[0; 20]).is_none());
-    assert!(rt; Name::from_bytes(b"R-10\0\0\0\0\0\0\0\0\0\0\0\0\0\0\0A").is_none());
+    assert_eq!(rt; Name::from_bytes(&name.bytes), Some(name));
+    assert_eq!(rt; Name::from_bytes(&[0; 20]), None);
+    assert_eq!(rt;
+        Name::from_bytes(b"R-10\0\0\0\0\0\0\0\0\0\0\0\0\0\0\0A"),
+        None
+    );
     Ok(())
 }
 
 #[test]
 fn versions(rt: HostRuntime) -> Result<(), Fail> {
     assert_eq!(rt; Version::first().number, 1);
-    assert!(rt; Version::new(0).is_none());
-    assert!(rt; Version::new(10000).is_none());
+    assert_eq!(rt; Version::new(0), None);
+    assert_eq!(rt; Version::new(10000), None);
     let last = Version::new(9998).ok_or(Refusal::VersionAbove)?.next()?;
     assert_eq!(rt; last.number, 9999);
     assert_eq!(rt; refused(last.next()), 4);

@@ -19,10 +19,9 @@ const FILES: [Row; 8] = [
 ];
 
 fn check_rows(rt: &impl Abort, rows: &[Row]) -> Result<(), Fail> {
-    for i in 0..rows.len() {
-        let (bytes, data, extent) = rows[i];
-        assert_eq!(rt; data_sectors(bytes)?, data, "{}", i);
-        assert_eq!(rt; extent_sectors(bytes)?, extent, "{}", i);
+    for (i, (bytes, data, extent)) in rows.iter().enumerate() {
+        assert_eq!(rt; data_sectors(*bytes)?, *data, "{}", i);
+        assert_eq!(rt; extent_sectors(*bytes)?, *extent, "{}", i);
     }
     Ok(())
 }

@@ -1,4 +1,3 @@
 pub mod ByteOrder
 pub mod Stored
-pub mod Tested
 pub mod Texts

@@ -1,23 +1,27 @@
 -- The bytes of names and keys as they are made.
+--     letters-step     the test of a stored name's bytes, at its first byte
 --     stored-name      a good text filled up with zeros is a name
---     joined-bytes     the bytes of a name and the two of a number, written into 22 zeros
 --     stored-key       a name and a version are a key
 --     stored-byte-key  its last byte is below 256
 --     filled-empty     no text filled up is 20 zeros
 --     key-bytes        if the last byte of a key is below 256, all its bytes are
-use Rattle.std.proofs.Common.{◌≡◌, ℕ, zero, suc, ◌-◌, ◌/◌, ◌%◌, ◌<◌, ◌≤◌, true, false, cond, ◌&&◌, ◌==◌, List, [], ◌∷◌, ◌++◌, length, get_or, take, drop, set, replicate, sym, refl, ap, ◌∙◌, ap₂, subst, arith}
+use Rattle.std.proofs.Common.{◌≡◌, ℕ, zero, suc, ◌-◌, ◌/◌, ◌%◌, ◌<◌, ◌≤◌, true, false, cond, ◌&&◌, ◌==◌, List, [], ◌∷◌, ◌++◌, length, get_or, take, drop, replicate, sym, refl, ap, ◌∙◌, subst, arith}
 use Rattle.std.specs.List.{AllByRecursion}
 use Rattle.std.proofs.ByRecursion.{All-append}
 use Rattle.std.proofs.lemmas.Bool.Decides.{nat_tests}
-use Rattle.std.proofs.lemmas.List.{drop_more, drop_all, take-append-drop, length-append, length-replicate, take_at, get_or-append_right, set_at, set-append_right}
+use Rattle.std.proofs.lemmas.Grind.{common_steps}
+use Rattle.std.proofs.lemmas.List.{drop_more, drop_all, take-append-drop, length-append, length-replicate, take_at, get_or-append_right}
 use Rattle.std.proofs.lemmas.Bool.{and_from, and_parts, eq-eqb, eqb-true, le-leb, lt-ltb, leb-true, ltb-true}
 use Rattle.names.specs.Names.{letter, letters, zeros, letters_then_zeros, GoodName, filled, is_name, two_bytes, version_of, is_key, is_byte_key}
 use Rattle.names.specs.Versions.{highest, InRange}
 
 zeros-only : (n : ℕ) → zeros (replicate n 0) ≡ true
-unfolding zeros
 zeros-only zero = refl
 zeros-only (suc n) = zeros-only n
+
+pub letters-step : (b : ℕ) (bytes : List ℕ) → letters_then_zeros (b ∷ bytes) ≡ cond (letter b) (letters_then_zeros bytes) (b == 0 && zeros bytes)
+unfolding letters_then_zeros
+letters-step b bytes = grind (arith, common_steps)
 
 zeros-follow : (n : ℕ) → letters_then_zeros (replicate n 0) ≡ true
 unfolding letters_then_zeros
@@ -25,14 +29,12 @@ zeros-follow zero = refl
 zeros-follow (suc n) = zeros-only n
 
 letters-follow : (text : List ℕ) (n : ℕ) → letters text ≡ true → letters_then_zeros (text ++ replicate n 0) ≡ true
-unfolding letters letters_then_zeros
 letters-follow [] n h = zeros-follow n
 letters-follow (b ∷ text) n h =
     let both = and_parts (letter b) (letters text) h in
-    rw both.0 (letters-follow text n both.1)
+    letters-step b (text ++ replicate n 0) ∙ rw both.0 (letters-follow text n both.1)
 
 first-letter : (text : List ℕ) → 1 ≤ length text → letters text ≡ true → (rest : List ℕ) → letter (get_or (text ++ rest) 0 0) ≡ true
-unfolding letters
 first-letter [] long h rest = absurd (omega arith)
 first-letter (b ∷ text) long h rest = (and_parts (letter b) (letters text) h).0
 
@@ -41,14 +43,6 @@ stored-name bytes text is good =
     let whole : length (filled text) ≡ 20 = simp (length-append, length-replicate) (omega arith) in
     ap is_name is
     ∙ and_from _ _ (and_from _ _ (eq-eqb (length (filled text)) 20 whole) (first-letter text good.0 good.2 (replicate (20 - length text) 0))) (letters-follow text (20 - length text) good.2)
-
-pub joined-bytes : (p name : List ℕ) (n : ℕ) → p ≡ name → length name ≡ 20 → n < 65536 → set (set (p ++ 0 ∷ 0 ∷ []) 20 (n / 256)) 21 (n % 256) ≡ name ++ two_bytes n
-joined-bytes p name n same long small =
-    let at : length p ≡ 20 = ap length same ∙ long in
-    let high : n / 256 ≡ n / 256 % 256 = omega arith in
-    ap (λ l. set l 21 (n % 256)) (set_at p 0 (0 ∷ []) (n / 256) 20 at)
-    ∙ set-append_right p (n / 256 ∷ 0 ∷ []) 20 21 (n % 256) at (omega arith)
-    ∙ ap₂ (λ q h. q ++ h ∷ n % 256 ∷ []) same high
 
 pub stored-key : (key name : List ℕ) (n : ℕ) → key ≡ name ++ two_bytes n → is_name name ≡ true → InRange n → is_key key ≡ true
 stored-key key name n is good range =
@@ -77,7 +71,6 @@ letter-small : (b : ℕ) → letter b ≡ true → b < 256
 letter-small b h = grind (arith, nat_tests)
 
 zeros-small : (bytes : List ℕ) → zeros bytes ≡ true → AllByRecursion (λ b. b < 256) bytes
-unfolding zeros
 zeros-small [] h = tt
 zeros-small (b ∷ bytes) h =
     let both = and_parts (b == 0) (zeros bytes) h in
@@ -85,13 +78,12 @@ zeros-small (b ∷ bytes) h =
     (omega arith, zeros-small bytes both.1)
 
 follow-small : (bytes : List ℕ) → letters_then_zeros bytes ≡ true → AllByRecursion (λ b. b < 256) bytes
-unfolding letters_then_zeros
 follow-small [] h = tt
 follow-small (b ∷ bytes) h =
     elim (letter b) as (λ v. letter b ≡ v → cond v (letters_then_zeros bytes) (b == 0 && zeros bytes) ≡ true → AllByRecursion (λ b. b < 256) (b ∷ bytes)) [
       | true ↦ λ l r. (letter-small b l, follow-small bytes r)
       | false ↦ λ l r. let both = and_parts (b == 0) (zeros bytes) r in let z = eqb-true b 0 both.0 in (omega arith, zeros-small bytes both.1)
-    ] refl h
+    ] refl (sym (letters-step b bytes) ∙ h)
 
 -- Those of a stored key are 22, each below 256.
 pub key-bytes : (key : List ℕ) → is_byte_key key ≡ true → AllByRecursion (λ b. b < 256) key
@@ -100,10 +92,11 @@ key-bytes key h =
     let b = and_parts _ _ a.0 in
     let c = and_parts _ _ b.0 in
     let d = and_parts _ _ c.0 in
-    let long = eqb-true (length key) 22 d.0 in
-    let front = follow-small (take 20 key) (and_parts _ _ d.1).1 in
-    let low = ltb-true (get_or key 21 0) 256 a.1 in
+    let long : length key ≡ 22 = eqb-true (length key) 22 d.0 in
+    let low : get_or key 21 0 < 256 = ltb-true (get_or key 21 0) 256 a.1 in
     let high : get_or key 20 0 < 256 = (let v = leb-true (version_of key) highest b.1 in omega arith) in
     let rest : drop 20 key ≡ get_or key 20 0 ∷ get_or key 21 0 ∷ [] =
     drop_more key 20 0 (omega arith) ∙ ap (λ l. get_or key 20 0 ∷ l) (drop_more key 21 0 (omega arith) ∙ ap (λ l. get_or key 21 0 ∷ l) (drop_all 22 key (omega arith))) in
-    subst (AllByRecursion (λ b. b < 256)) (take-append-drop 20 key) (All-append (λ b. b < 256) (take 20 key) (drop 20 key) front (subst (AllByRecursion (λ b. b < 256)) (sym rest) (high, (low, tt))))
+    let front : AllByRecursion (λ b. b < 256) (take 20 key) = follow-small (take 20 key) (and_parts _ _ d.1).1 in
+    let back : AllByRecursion (λ b. b < 256) (drop 20 key) = rw rest (high, (low, tt)) in
+    subst (AllByRecursion (λ b. b < 256)) (take-append-drop 20 key) (All-append (λ b. b < 256) (take 20 key) (drop 20 key) front back)

@@ -3,6 +3,7 @@
 use Rattle.std.proofs.Common.{◌≡◌, ℕ, zero, suc, ◌+◌, ◌-◌, ◌≤◌, true, false, cond, ◌&&◌, eqb, List, [], ◌∷◌, ◌++◌, length, get_or, replicate, sym, refl, ap, ◌∙◌, ap₂, arith}
 use Rattle.std.proofs.lemmas.List.{length-append, length-replicate}
 use Rattle.std.proofs.lemmas.Bool.{and_from, and_parts, eqb-true, both_ways}
+use Rattle.names.proofs.Stored.{letters-step}
 use Rattle.names.specs.Names.{letter, letters, zeros, letters_then_zeros, is_name, HasText}
 
 -- letters, and so many zeros after them
@@ -10,29 +11,25 @@ abbrev Split : List ℕ → Type 0
 Split bytes = (text : List ℕ) × (n : ℕ) × (letters text ≡ true) × (bytes ≡ text ++ replicate n 0)
 
 all-zeros : (bytes : List ℕ) → zeros bytes ≡ true → bytes ≡ replicate (length bytes) 0
-unfolding zeros
 all-zeros [] h = refl
 all-zeros (b ∷ bytes) h =
     let both = and_parts (eqb b 0) (zeros bytes) h in
     ap₂ (λ x xs. x ∷ xs) (eqb-true b 0 both.0) (all-zeros bytes both.1)
 
 split-letter : (b : ℕ) (bytes : List ℕ) → letter b ≡ true → Split bytes → Split (b ∷ bytes)
-unfolding letters
 split-letter b bytes is s = (b ∷ s.0, s.1, and_from (letter b) (letters s.0) is s.2, ap (λ xs. b ∷ xs) s.3)
 
 split-zero : (b : ℕ) (bytes : List ℕ) → (eqb b 0 && zeros bytes) ≡ true → Split (b ∷ bytes)
-unfolding letters
 split-zero b bytes h =
     let both = and_parts (eqb b 0) (zeros bytes) h in ([], suc (length bytes), refl, ap₂ (λ x xs. x ∷ xs) (eqb-true b 0 both.0) (all-zeros bytes both.1))
 
 split : (bytes : List ℕ) → letters_then_zeros bytes ≡ true → Split bytes
-unfolding letters_then_zeros letters
 split [] h = ([], 0, refl, refl)
 split (b ∷ bytes) h =
     elim (letter b) as (λ t. letter b ≡ t → cond t (letters_then_zeros bytes) (eqb b 0 && zeros bytes) ≡ true → Split (b ∷ bytes))
     [ true ↦ λ is rest. split-letter b bytes is (split bytes rest) | false ↦ λ is rest. split-zero b bytes rest ]
     refl
-    h
+    (sym (letters-step b bytes) ∙ h)
 
 not-empty : (text : List ℕ) (n : ℕ) → letter (get_or (text ++ replicate n 0) 0 0) ≡ true → 1 ≤ length text
 not-empty [] zero h = absurd (both_ways false refl h)

@@ -11,23 +11,21 @@
 --     version_of            the number in the last two bytes of a key
 --     is_key                the 22 bytes of a key: a name, and a version from 1 to 9,999
 --     is_byte_key           a key whose last byte is below 256, as that of every stored key is
-use Rattle.std.specs.Prelude.{◌≡◌, ℕ, ◌+◌, ◌-◌, ◌*◌, ◌/◌, ◌%◌, ◌≤◌, Bool, true, cond, ◌&&◌, ◌||◌, List, [], ◌∷◌, ◌++◌, length, take, replicate, ◌==◌, nat_le, nat_lt, slice_index}
+use Rattle.std.specs.Prelude.{◌≡◌, ℕ, ◌+◌, ◌-◌, ◌*◌, ◌/◌, ◌%◌, ◌≤◌, Bool, true, ◌&&◌, ◌||◌, List, [], ◌∷◌, ◌++◌, length, take, drop, replicate, ◌==◌, nat_le, nat_lt, slice_index}
+use Rattle.std.specs.List.{list_all, prefix_len}
 use Rattle.names.specs.Versions.{highest}
 
 abbrev pub letter : ℕ → Bool
 letter b = (nat_le 65 b && nat_le b 90) || (nat_le 48 b && nat_le b 57) || b == 45
 
-unfoldable pub letters : List ℕ → Bool
-letters [] = true
-letters (b ∷ bytes) = letter b && letters bytes
+abbrev pub letters : List ℕ → Bool
+letters text = list_all letter text
 
-unfoldable pub zeros : List ℕ → Bool
-zeros [] = true
-zeros (b ∷ bytes) = b == 0 && zeros bytes
+abbrev pub zeros : List ℕ → Bool
+zeros bytes = list_all (λ b. b == 0) bytes
 
 unfoldable pub letters_then_zeros : List ℕ → Bool
-letters_then_zeros [] = true
-letters_then_zeros (b ∷ bytes) = cond (letter b) (letters_then_zeros bytes) (b == 0 && zeros bytes)
+letters_then_zeros bytes = zeros (drop (prefix_len letter bytes) bytes)
 
 abbrev pub GoodName : List ℕ → Type 0
 GoodName text = (1 ≤ length text) × (length text ≤ 20) × (letters text ≡ true)

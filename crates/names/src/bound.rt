@@ -9,7 +9,7 @@ use crate::name::Name;
 use refusal::Refusal;
 
 /// 22 bytes in the order of keys, which need not be a key.
-#[derive(Clone, Copy)]
+#[derive(Clone, Copy, PartialEq, Eq, PartialOrd, Ord, Debug)]
 pub struct Bound {
     pub bytes: [u8; 22],
 }
@@ -20,7 +20,7 @@ impl Bound {
         ensures value { result.bytes ≡ replicate 22 0 }
         ensures below { (k : List ℕ) → is_key k ≡ true → before result.bytes k ≡ true }
     {
-        Bound { bytes: [0u8; 22] }
+        Bound { bytes: [0; 22] }
     }
 
     /// The bound at this good name and a version, which may be any number.
@@ -36,14 +36,13 @@ impl Bound {
     pub fn new(name: &[u8], version: u16) -> Result<Bound, Refusal>
         ensures { elim result [ Ok b ↦ (1 ≤ length name.now → GoodName name.now) × (b.bytes ≡ filled name.now ++ two_bytes version) | Err x ↦ (x ≡ BadName) × (1 ≤ length name.now) × (GoodName name.now → ⊥) ] }
     {
-        if name.is_empty() {
-            return Ok(Bound {
-                bytes: joined(&[0u8; 20], version),
-            });
-        }
-        let good = Name::new(name)?;
+        let bytes = if name.is_empty() {
+            [0; 20]
+        } else {
+            Name::new(name)?.bytes
+        };
         Ok(Bound {
-            bytes: joined(&good.bytes, version),
+            bytes: joined(&bytes, version),
         })
     }
 }

@@ -5,10 +5,10 @@ ghost use Rattle.names.specs.Orders.{before, Total};
 ghost use Rattle.names.specs.Versions.{InRange};
 
 use crate::name::{Name, is_name};
-use crate::version::{HIGHEST, Version};
+use crate::version::Version;
 
 /// The 20 bytes of the name and the version in two bytes, the higher first. Keys are ordered by their bytes, the first that differs decides. Every value of it is good.
-#[derive(Clone, Copy)]
+#[derive(Clone, Copy, PartialEq, Eq, PartialOrd, Ord, Debug)]
 pub struct Key {
     pub bytes: [u8; 22],
     ghost good: { is_key bytes ≡ true },
@@ -26,11 +26,11 @@ impl Key {
     }
 
     /// The key in these bytes, if they are one.
+    // An Option, as of `Name::from_bytes`: one reason only, so None says it all.
     pub fn from_bytes(bytes: &[u8; 22]) -> Option<Key>
         ensures { elim result [ Some k ↦ (is_key bytes.now ≡ true) × (k.bytes ≡ bytes.now) | None ↦ is_key bytes.now ≡ false ] }
     {
-        let version = version_of(bytes);
-        if is_name(&bytes[0..20]) && version >= 1 && version <= HIGHEST {
+        if is_name(&bytes[..20]) && Version::new(version_of(bytes)).is_some() {
             Some(Key { bytes: *bytes })
         } else {
             None
@@ -49,9 +49,9 @@ impl Key {
     pub fn name(&self) -> Name
         ensures { result.bytes ≡ take 20 self.now.bytes }
     {
-        let mut bytes = [0u8; 20];
-        bytes.copy_from_slice(&self.bytes[0..20]);
-        Name { bytes }
+        Name {
+            bytes: *self.bytes.first_chunk().unwrap(),
+        }
     }
 
     /// Whether this key comes before another.
@@ -59,7 +59,7 @@ impl Key {
         ensures value { result ≡ before self.now.bytes other.now.bytes }
         ensures order { Total before }
     {
-        self.bytes < other.bytes
+        self < other
     }
 }
 
@@ -68,9 +68,8 @@ pub(crate) fn joined(name: &[u8; 20], number: u16) -> [u8; 22]
     ensures { result ≡ name.now ++ two_bytes number }
 {
     let mut bytes = [0u8; 22];
-    bytes[0..20].copy_from_slice(name);
-    bytes[20] = (number / 256) as u8;
-    bytes[21] = (number % 256) as u8;
+    bytes[..20].copy_from_slice(name);
+    bytes[20..].copy_from_slice(&number.to_be_bytes());
     bytes
 }
 
@@ -78,5 +77,6 @@ pub(crate) fn joined(name: &[u8; 20], number: u16) -> [u8; 22]
 pub fn version_of(bytes: &[u8; 22]) -> u16
     ensures { result ≡ version_of bytes.now }
 {
-    u16::from(bytes[20]) * 256 + u16::from(bytes[21])
+    let [.., high, low] = bytes;
+    u16::from_be_bytes([*high, *low])
 }

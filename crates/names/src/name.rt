@@ -6,7 +6,7 @@ ghost use Rattle.names.specs.Names.{letter, letters, letters_then_zeros, GoodNam
 use refusal::Refusal;
 
 /// A name has 1 to 20 characters of A to Z, 0 to 9 and the hyphen. It is stored filled up with zeros to 20 bytes. Every value of it is good.
-#[derive(Clone, Copy)]
+#[derive(Clone, Copy, PartialEq, Eq, PartialOrd, Ord, Debug)]
 pub struct Name {
     pub bytes: [u8; 20],
     ghost good: { is_name bytes ≡ true },
@@ -17,27 +17,22 @@ impl Name {
     pub fn new(text: &[u8]) -> Result<Name, Refusal>
         ensures { elim result [ Ok n ↦ GoodName text.now × (n.bytes ≡ filled text.now) | Err x ↦ (x ≡ BadName) × (GoodName text.now → ⊥) ] }
     {
-        let length = text.len();
-        if length == 0 {
-            return Err(Refusal::BadName);
-        }
-        if length > 20 {
-            return Err(Refusal::BadName);
-        }
-        if !only_letters(text) {
+        if text.is_empty() || text.len() > 20 || !only_letters(text) {
             return Err(Refusal::BadName);
         }
         Ok(Name { bytes: fill(text) })
     }
 
     /// The name that is stored in these bytes, if they are one: a good text, filled up.
+    // An Option and no TryFrom, as `NonZero::new`: bytes are turned down for one reason only, and there is no number of a refusal for it.
     pub fn from_bytes(bytes: &[u8; 20]) -> Option<Name>
         ensures { elim result [ Some n ↦ (is_name bytes.now ≡ true) × (n.bytes ≡ bytes.now) × HasText bytes.now | None ↦ is_name bytes.now ≡ false ] }
     {
-        if !is_name(bytes) {
-            return None;
+        if is_name(bytes) {
+            Some(Name { bytes: *bytes })
+        } else {
+            None
         }
-        Some(Name { bytes: *bytes })
     }
 }
 
@@ -54,7 +49,7 @@ fn fill(text: &[u8]) -> [u8; 20]
     ensures { result ≡ filled text.now }
 {
     let mut bytes = [0u8; 20];
-    bytes[0..text.len()].copy_from_slice(text);
+    bytes[..text.len()].copy_from_slice(text);
     bytes
 }
 
@@ -69,25 +64,16 @@ fn is_letter(byte: u8) -> bool
 fn only_letters(text: &[u8]) -> bool
     ensures { result ≡ letters text.now }
 {
-    for byte in text {
-        if !is_letter(*byte) {
-            return false;
-        }
-    }
-    true
+    text.iter().all(|byte| is_letter(*byte))
 }
 
 // Whether there are letters and then zeros only.
+#[tactic(auto, unfolding(crate::specs::Names::letters_then_zeros))]
 fn letters_then_zeros(bytes: &[u8]) -> bool
     ensures { result ≡ letters_then_zeros bytes.now }
 {
-    let mut ended = false;
-    for byte in bytes {
-        if *byte == 0 {
-            ended = true;
-        } else if ended || !is_letter(*byte) {
-            return false;
-        }
-    }
-    true
+    bytes
+        .iter()
+        .skip_while(|byte| is_letter(**byte))
+        .all(|byte| *byte == 0)
 }

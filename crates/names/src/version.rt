@@ -9,7 +9,7 @@ use refusal::Refusal;
 pub const HIGHEST: u16 = 9999;
 
 /// A version is 1 to 9,999. Every value of it is good.
-#[derive(Clone, Copy)]
+#[derive(Clone, Copy, PartialEq, Eq, PartialOrd, Ord, Debug)]
 pub struct Version {
     pub number: u16,
     ghost good: { InRange number },
@@ -17,10 +17,11 @@ pub struct Version {
 
 impl Version {
     /// The version with this number, if there is one.
+    // An Option, as of `NonZero::new`: one reason only, so None says it all.
     pub fn new(number: u16) -> Option<Version>
         ensures { elim result [ Some v ↦ InRange number × (v.number ≡ number) | None ↦ (InRange number → ⊥) ] }
     {
-        if number >= 1 && number <= HIGHEST {
+        if (1..=HIGHEST).contains(&number) {
             Some(Version { number })
         } else {
             None

@@ -1,7 +1,7 @@
-use Rattle.layout.proofs.Zeros.{filled}
+use Rattle.std.proofs.Common.{◌++◌, replicate, ap, ap₂, ◌∙◌, arith}
+use Rattle.layout.specs.Padded.{padded}
 use Rattle.layout.proofs.fill.fill.Goals as goal
 
 pub returns : goal.returns
-returns c =
-    filled c.args.sector.now c.args.fields.now c.copy_from_slice.new.self c.fill.new.self c.told-sector c.requires c.copy_from_slice.ensures.after
-    (c.fill.ensures.after (λ y e. e))
+unfolding padded
+returns c = ap₂ (λ a b. a ++ b) c.copy_from_slice.ensures.after (c.fill.ensures.after (λ y e. e) ∙ ap (λ n. replicate n 0) (omega arith))

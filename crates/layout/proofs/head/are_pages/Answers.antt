@@ -1,42 +1,21 @@
-use Rattle.std.proofs.Common.{◌≡◌, ℕ, ◌+◌, ◌-◌, get_or, take, drop, sym, ap, ◌∙◌, ap₂, arith}
+use Rattle.std.proofs.Common.{◌≡◌, ◌&&◌, ltb, sym, ap, ◌∙◌, arith}
+use Rattle.std.specs.List.{list_all}
 use Rattle.layout.specs.Padded.{all_zeros}
-use Rattle.layout.specs.Heads.{good_pages}
-use Rattle.layout.proofs.Zeros.{rest-zeros}
-use Rattle.layout.proofs.PageNumbers.{pages-rest, pages-low, pages-high, pages-more, pages-many}
+use Rattle.layout.specs.Heads.{good_pages, rises}
+use Rattle.layout.proofs.PageNumbers.{pages-many, pages-split}
 use Rattle.layout.proofs.head.are_pages.Goals as goal
+use Rattle.layout.proofs.head.are_pages.Goals.{In-Some, then-rise, else-rise}
 
-pub returns-then-many-gt21 : goal.returns-then-many-gt21
-returns-then-many-gt21 c = sym (pages-many c.args.pages.now c.args.count 0 c.args.limit (omega arith))
+-- the three tests in a row
+tests : (c : In-Some) → good_pages c.args.count 0 c.args.limit c.args.pages.now
+    ≡ (rises 0 c.in-Some.listed.now && (list_all (λ p. ltb p c.args.limit) c.in-Some.listed.now && all_zeros c.in-Some.others.now))
+tests c = ap (λ n. good_pages n 0 c.args.limit c.args.pages.now) (sym c.from.ensures) ∙ pages-split c.args.pages.now c.from.result c.args.limit c.in-Some.listed.now c.in-Some.others.now c.in-Some.ensures.cases
 
-pub loop-i-init : goal.loop-i-init
-loop-i-init c = let all : c.from-many.result - 0 ≡ c.args.count = omega arith in ap (λ (n : ℕ). good_pages n 0 c.args.limit c.args.pages.now) all
+pub returns-in_default : goal.returns-in_default
+returns-in_default c = let few = c.in_default.ensures.cases in sym (pages-many c.args.pages.now c.args.count 0 c.args.limit (omega arith))
 
-pub returns-then-number-low : goal.returns-then-number-low
-returns-then-number-low c =
-    sym (pages-low c.args.pages.now c.loop-i.i (c.from-many.result - c.loop-i.i) c.loop-i.low c.args.limit (omega arith) (λ e. omega arith) (omega arith))
-    ∙ c.loop-i.invariant
+pub returns-then-all_below : goal.returns-then-all_below
+returns-then-all_below c = let t = tests (goal.at.returns-then-all_below c).In-Some in elim c.if-rise.branch [ then-rise w ↦ grind arith | else-rise w ↦ cc ]
 
-pub returns-then-number-from : goal.returns-then-number-from
-returns-then-number-from c =
-    sym (pages-high c.args.pages.now c.loop-i.i (c.from-many.result - c.loop-i.i) c.loop-i.low c.args.limit (omega arith) (λ e. omega arith) (omega arith))
-    ∙ c.loop-i.invariant
-
-pub loop-i-preserved : goal.loop-i-preserved
-loop-i-preserved c =
-    let ps = c.args.pages.now in
-    let i = c.loop-i.i in
-    let left : c.from-many.result - (i + 1) ≡ c.from-many.result - i - 1 = omega arith in
-    let low : c.from-number.result + 1 ≡ get_or ps i 0 + 1 = omega arith in
-    ap₂ (λ (n k : ℕ). good_pages n k c.args.limit (drop (i + 1) ps)) left low
-    ∙ sym (pages-more ps i (c.from-many.result - i) c.loop-i.low c.args.limit (omega arith) (λ e. omega arith) (omega arith) (omega arith))
-    ∙ c.loop-i.invariant
-
-pub returns : goal.returns
-returns c =
-    let ps = c.args.pages.now in
-    let many = c.from-many.result in
-    let i = c.loop-i.i in
-    let at : many ≡ i = omega arith in
-    let none : many - i ≡ 0 = omega arith in
-    let tested = c.are_zeros.ensures ∙ ap (λ (n : ℕ). all_zeros (take (n - many) (drop many ps))) (sym c.told-pages) in
-    sym (rest-zeros ps many tested) ∙ ap (λ (n : ℕ). all_zeros (drop n ps)) at ∙ sym (pages-rest (many - i) c.loop-i.low c.args.limit (drop i ps) none) ∙ c.loop-i.invariant
+pub returns-else-all_below : goal.returns-else-all_below
+returns-else-all_below c = let t = tests (goal.at.returns-else-all_below c).In-Some in elim c.if-rise.branch [ then-rise w ↦ grind arith | else-rise w ↦ grind arith ]
