@@ -5,8 +5,9 @@
 --     holds        whether an example gives that
 --     table        all examples
 --     all_hold     every example of a table holds
-use Rattle.std.specs.Prelude.{ℕ, ◌+◌, ◌-◌, Bool, true, false, not, ◌&&◌, List, [], ◌∷◌, ◌++◌, map, Some, None, Option, codes, ◌==◌, nat_eq, nat_le, nat_lt}
+use Rattle.std.specs.Prelude.{ℕ, ◌+◌, ◌-◌, Bool, not, ◌&&◌, List, [], ◌∷◌, ◌++◌, map, Some, None, Option, codes, ◌==◌, nat_eq, nat_le, nat_lt}
 use Rattle.std.specs.Cmp.Lexicographic.{pointwise}
+use Rattle.std.specs.List.{list_all}
 use Rattle.geometry.specs.Places.{first_homes, second_homes, data_start}
 use Rattle.geometry.specs.Sizes.{data_sectors, record_of}
 use Rattle.names.specs.Names.{filled, two_bytes}
@@ -26,12 +27,8 @@ pub data Case : Type 0 where
   -- a register whose only leaf has these keys takes one more: its leaves have these keys
   splits : (held : List ℕ) (new : ℕ) (first second : List ℕ) → Case
 
--- f gives these values at these places
 abbrev pub gives : (ℕ → ℕ) → List ℕ → List ℕ → Bool
-gives f [] [] = true
-gives f [] (y ∷ ys) = false
-gives f (x ∷ xs) [] = false
-gives f (x ∷ xs) (y ∷ ys) = f x == y && gives f xs ys
+gives f xs ys = pointwise nat_eq (map f xs) ys
 
 abbrev pub leaves : Option (List (Node ℕ ℕ)) → List (List ℕ)
 leaves None = []
@@ -54,5 +51,4 @@ table =
     ∷ []
 
 abbrev pub all_hold : List Case → Bool
-all_hold [] = true
-all_hold (c ∷ cs) = holds c && all_hold cs
+all_hold cases = list_all holds cases

@@ -36,8 +36,8 @@ module _ (p t n : ℕ) (good : Good p t n) where
   used-place s (log (suc zero)) h = grind (arith, nat_tests)
   used-place s (log (suc (suc zero))) h = grind (arith, nat_tests)
   used-place s (log (suc (suc (suc k)))) h = absurd (omega arith)
-  used-place s (first-copy i) h = let is : s - first_homes t ≡ i = omega arith in grind (arith, nat_tests)
-  used-place s (second-copy i) h = let is : s - second_homes p t ≡ i = omega arith in grind (arith, nat_tests)
+  used-place s (first-copy i) h = grind (arith, nat_tests)
+  used-place s (second-copy i) h = grind (arith, nat_tests)
   used-place s file-data h = grind (arith, nat_tests)
 
   unused-place : (s : ℕ) → Unused p t s → place p t s ≡ None

@@ -6,7 +6,8 @@ use Rattle.geometry.specs.declared.third.Third.TheVariants.{Zero, One, Two}
 use Rattle.layout.specs.Padded.{padded, all_zeros, four_bytes, number4, tag_is, Decodes}
 use Rattle.layout.specs.Anchors.{AnchorFits, encode_anchor, decode_anchor, anchor_at}
 use Rattle.layout.specs.declared.anchor.Anchor.{Anchor}
-use Rattle.layout.proofs.Numbers.{four-number, four-back, opened, was-open, both-true, tag-letters}
+use Rattle.std.proofs.lemmas.Bool.{and_parts}
+use Rattle.layout.proofs.Numbers.{four-number, four-back, opened, was-open, tag-letters}
 use Rattle.layout.proofs.Zeros.{gets, padded-gets, zeros-replicate}
 
 third-back : (t : Third) → third_of (number_of t) ≡ Some t
@@ -15,10 +16,10 @@ third-back One = refl
 third-back Two = refl
 
 number-back : (n : ℕ) (t : Third) → third_of n ≡ Some t → number_of t ≡ n
-number-back zero t e = let is : t ≡ Zero = cc in rw is
-number-back (suc zero) t e = let is : t ≡ One = cc in rw is
-number-back (suc (suc zero)) t e = let is : t ≡ Two = cc in rw is
-number-back (suc (suc (suc n))) t e = let z : ◌≡◌ {A = ℕ} 0 1 = cc in absurd (omega arith)
+number-back zero t e = grind arith
+number-back (suc zero) t e = grind arith
+number-back (suc (suc zero)) t e = grind arith
+number-back (suc (suc (suc n))) t e = grind arith
 
 parts : (g : ℕ) (o : Option Third) (a : Anchor) → anchor_at g o ≡ Some a → (o ≡ Some a.third) × (a.group ≡ g)
 parts g None a e = let z : ◌≡◌ {A = ℕ} 0 1 = cc in absurd (omega arith)
@@ -34,7 +35,7 @@ anchor-round a fits =
 pub anchor-exact : (s : List ℕ) (a : Anchor) → length s ≡ 512 → ((k : ℕ) → get_or s k 0 < 256) → decode_anchor s ≡ Some a → AnchorFits a × (s ≡ encode_anchor a)
 anchor-exact s a long small e =
     let open-at = was-open (tag_is 70 83 68 65 s && all_zeros (drop 9 s)) _ a e in
-    let tests = both-true (tag_is 70 83 68 65 s) (all_zeros (drop 9 s)) open-at.0 in
+    let tests = and_parts (tag_is 70 83 68 65 s) (all_zeros (drop 9 s)) open-at.0 in
     let letters = tag-letters 70 83 68 65 s tests.0 in
     let part = parts (number4 (get_or s 5 0) (get_or s 6 0) (get_or s 7 0) (get_or s 8 0)) (third_of (get_or s 4 0)) a open-at.1 in
     let third = number-back (get_or s 4 0) a.third part.0 in

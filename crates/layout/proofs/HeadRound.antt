@@ -5,7 +5,8 @@ use Rattle.std.proofs.lemmas.Bool.Decides.{nat_tests}
 use Rattle.layout.specs.Padded.{padded, all_zeros, four_bytes, number4, tag_is, Decodes}
 use Rattle.layout.specs.Heads.{good_pages, HeadFits, encode_head, head_of, decode_head}
 use Rattle.layout.specs.declared.head.RecordHead.{RecordHead}
-use Rattle.layout.proofs.Numbers.{four-number, four-back, was-open, both-true, tag-letters}
+use Rattle.std.proofs.lemmas.Bool.{and_parts}
+use Rattle.layout.proofs.Numbers.{four-number, four-back, was-open, tag-letters}
 use Rattle.layout.proofs.Zeros.{gets, gets-take, padded-front, zeros-replicate}
 
 abbrev made : ℕ → ℕ → List ℕ → RecordHead
@@ -36,8 +37,8 @@ head-exact limit s h long small is =
     let rest = drop 9 s in
     let n = number4 (get_or s 4 0) (get_or s 5 0) (get_or s 6 0) (get_or s 7 0) in
     let inner = was-open (all_zeros (drop 21 rest) && (leb 1 (get_or s 8 0) && good_pages (get_or s 8 0) 0 limit (take 21 rest))) _ h open-at.1 in
-    let tests = both-true (all_zeros (drop 21 rest)) _ inner.0 in
-    let more = both-true (leb 1 (get_or s 8 0)) (good_pages (get_or s 8 0) 0 limit (take 21 rest)) tests.1 in
+    let tests = and_parts (all_zeros (drop 21 rest)) _ inner.0 in
+    let more = and_parts (leb 1 (get_or s 8 0)) (good_pages (get_or s 8 0) 0 limit (take 21 rest)) tests.1 in
     let one : 1 ≤ get_or s 8 0 = grind (arith, nat_tests, more.0) in
     let value : made n (get_or s 8 0) (take 21 rest) ≡ h = let e = inner.1 in cc in
     let group = sym (ap (λ (x : RecordHead). x.group) value) in

@@ -6,7 +6,8 @@ use Rattle.layout.specs.Padded.{padded, all_zeros, four_bytes, number4, tag_is, 
 use Rattle.names.specs.Names.{two_bytes}
 use Rattle.layout.specs.Headers.{HeaderFits, encode_header, good_numbers, header_of, decode_header}
 use Rattle.layout.specs.declared.header.Header.{Header}
-use Rattle.layout.proofs.Numbers.{two-number, two-back, four-number, four-back, opened, was-open, both-true, tag-letters}
+use Rattle.std.proofs.lemmas.Bool.{and_parts}
+use Rattle.layout.proofs.Numbers.{two-number, two-back, four-number, four-back, opened, was-open, tag-letters}
 use Rattle.layout.proofs.Zeros.{gets, padded-gets, zeros-replicate}
 
 good-passes : (p t n : ℕ) → Good p t n → good_numbers p t n ≡ true
@@ -14,10 +15,10 @@ good-passes p t n good = grind (arith, nat_tests)
 
 passes-good : (p t n : ℕ) → good_numbers p t n ≡ true → Good p t n
 passes-good p t n h =
-    let a = both-true (leb 2 p) _ h in
-    let b = both-true (leb p 21) _ a.1 in
-    let c = both-true (leb (2 * p + 6) t) _ b.1 in
-    let d = both-true (leb t 1000) _ c.1 in
+    let a = and_parts (leb 2 p) _ h in
+    let b = and_parts (leb p 21) _ a.1 in
+    let c = and_parts (leb (2 * p + 6) t) _ b.1 in
+    let d = and_parts (leb t 1000) _ c.1 in
     (grind (arith, nat_tests, a.0), grind (arith, nat_tests, b.0), grind (arith, nat_tests, c.0), grind (arith, nat_tests, d.0), grind (arith, nat_tests, d.1))
 
 right-numbers : (count p t n : ℕ) → n ≡ count → Good p t n → header_of count p t n ≡ Some (record { pages = p; third = t; sectors = n })
@@ -31,7 +32,7 @@ made p t n = record { pages = p; third = t; sectors = n }
 parts : (count p t n : ℕ) (h : Header) → header_of count p t n ≡ Some h → Good p t n × (n ≡ count) × (made p t n ≡ h)
 parts count p t n h e =
     let open-at = was-open (eqb n count && good_numbers p t n) _ h e in
-    let tests = both-true (eqb n count) (good_numbers p t n) open-at.0 in
+    let tests = and_parts (eqb n count) (good_numbers p t n) open-at.0 in
     let value = open-at.1 in
     (passes-good p t n tests.1, (Decides-eqb n count).0 tests.0, cc)
 
@@ -49,8 +50,8 @@ header-exact : (count : ℕ) (s : List ℕ) (h : Header) → length s ≡ 512 �
     → HeaderFits count h × (s ≡ encode_header h)
 header-exact count s h long small is =
     let open-at = was-open (tag_is 70 83 68 86 s && (eqb (get_or s 4 0) 1 && all_zeros (drop 12 s))) _ h is in
-    let tests = both-true (tag_is 70 83 68 86 s) (eqb (get_or s 4 0) 1 && all_zeros (drop 12 s)) open-at.0 in
-    let more = both-true (eqb (get_or s 4 0) 1) (all_zeros (drop 12 s)) tests.1 in
+    let tests = and_parts (tag_is 70 83 68 86 s) (eqb (get_or s 4 0) 1 && all_zeros (drop 12 s)) open-at.0 in
+    let more = and_parts (eqb (get_or s 4 0) 1) (all_zeros (drop 12 s)) tests.1 in
     let letters = tag-letters 70 83 68 86 s tests.0 in
     let edition = (Decides-eqb (get_or s 4 0) 1).0 more.0 in
     let p = get_or s 5 0 in

@@ -7,7 +7,8 @@ use Rattle.names.specs.Names.{is_key}
 use Rattle.layout.specs.Padded.{padded, all_zeros, four_bytes, tag_is, Decodes}
 use Rattle.layout.specs.Leaders.{LeaderFits, encode_leader, length_of, leader_of, decode_leader}
 use Rattle.layout.specs.declared.leader.Leader.{Leader}
-use Rattle.layout.proofs.Numbers.{four-number, four-back, opened, was-open, both-true, two-true, tag-letters}
+use Rattle.std.proofs.lemmas.Bool.{and_parts, and_from}
+use Rattle.layout.proofs.Numbers.{four-number, four-back, opened, was-open, tag-letters}
 use Rattle.layout.proofs.Zeros.{gets, gets-take, padded-front, zeros-replicate}
 
 abbrev made : List ℕ → ℕ → Leader
@@ -16,7 +17,7 @@ made key n = record { key = key; length = n }
 leader-is : (rest : List ℕ) → all_zeros (drop 26 rest) ≡ true → length_of rest ≤ longest → is_key (take 22 rest) ≡ true → leader_of rest ≡ Some (made (take 22 rest) (length_of rest))
 leader-is rest z short key =
     let test : leb (length_of rest) longest ≡ true = grind (arith, nat_tests) in
-    opened (all_zeros (drop 26 rest)) _ _ _ z (two-true (leb (length_of rest) longest) (is_key (take 22 rest)) test key)
+    opened (all_zeros (drop 26 rest)) _ _ _ z (and_from (leb (length_of rest) longest) (is_key (take 22 rest)) test key)
 
 -- A key has 22 bytes.
 key-length : (k : List ℕ) → is_key k ≡ true → length k ≡ 22
@@ -54,8 +55,8 @@ leader-exact s l long small is =
     let letters = tag-letters 70 83 68 76 s open-at.0 in
     let rest = drop 4 s in
     let inner = was-open (all_zeros (drop 26 rest) && (leb (length_of rest) longest && is_key (take 22 rest))) _ l open-at.1 in
-    let tests = both-true (all_zeros (drop 26 rest)) _ inner.0 in
-    let more = both-true (leb (length_of rest) longest) (is_key (take 22 rest)) tests.1 in
+    let tests = and_parts (all_zeros (drop 26 rest)) _ inner.0 in
+    let more = and_parts (leb (length_of rest) longest) (is_key (take 22 rest)) tests.1 in
     let short : length_of rest ≤ longest = grind (arith, nat_tests, more.0) in
     let value : made (take 22 rest) (length_of rest) ≡ l = let e = inner.1 in cc in
     let key = sym (ap (λ (x : Leader). x.key) value) in

@@ -3,9 +3,10 @@
 --     four-number                         a number of four bytes comes back from them
 --     two-back, two-number                the same for two bytes
 --     opened, shut, was-open              a decoder behind tests that hold, and behind ones that do not
---     both-true, two-true, false-right    two tests in a row
 --     tag-letters                         a tag that was found gives its letters
 use Rattle.std.proofs.Common.{◌≡◌, ℕ, ◌+◌, ◌*◌, ◌/◌, ◌%◌, ◌^◌, ◌<◌, Bool, true, false, cond, ◌&&◌, eqb, List, [], ◌∷◌, get_or, Some, None, Option, refl, arith}
+use Rattle.std.proofs.lemmas.Bool.{and_parts}
+use Rattle.std.proofs.lemmas.Option.{none-some}
 use Rattle.std.proofs.lemmas.Bool.Decides.{Decides-eqb}
 use Rattle.layout.specs.Padded.{four_bytes, number4, tag_is}
 use Rattle.names.specs.Names.{two_bytes}
@@ -43,22 +44,11 @@ shut false b x y q = refl
 
 pub was-open : {X : Type 0} (b : Bool) (x : Option X) (y : X) → cond b x None ≡ Some y → (b ≡ true) × (x ≡ Some y)
 was-open true x y e = (refl, e)
-was-open false x y e = let z : ◌≡◌ {A = ℕ} 0 1 = cc in absurd (omega arith)
-
-pub both-true : (a b : Bool) → (a && b) ≡ true → (a ≡ true) × (b ≡ true)
-both-true true b h = (refl, h)
-both-true false b h = let z : ◌≡◌ {A = ℕ} 0 1 = cc in absurd (omega arith)
+was-open false x y e = absurd (none-some y e)
 
 pub tag-letters : (a b c d : ℕ) (s : List ℕ) → tag_is a b c d s ≡ true → (get_or s 0 0 ≡ a) × (get_or s 1 0 ≡ b) × (get_or s 2 0 ≡ c) × (get_or s 3 0 ≡ d)
 tag-letters a b c d s h =
-    let x = both-true (eqb (get_or s 0 0) a) _ h in
-    let y = both-true (eqb (get_or s 1 0) b) _ x.1 in
-    let z = both-true (eqb (get_or s 2 0) c) _ y.1 in
+    let x = and_parts (eqb (get_or s 0 0) a) _ h in
+    let y = and_parts (eqb (get_or s 1 0) b) _ x.1 in
+    let z = and_parts (eqb (get_or s 2 0) c) _ y.1 in
     ((Decides-eqb (get_or s 0 0) a).0 x.0, (Decides-eqb (get_or s 1 0) b).0 y.0, (Decides-eqb (get_or s 2 0) c).0 z.0, (Decides-eqb (get_or s 3 0) d).0 z.1)
-
-pub false-right : (a b : Bool) → b ≡ false → (a && b) ≡ false
-false-right true b h = h
-false-right false b h = refl
-
-pub two-true : (a b : Bool) → a ≡ true → b ≡ true → (a && b) ≡ true
-two-true a b p q = rw (p, q)

@@ -8,7 +8,7 @@ use Rattle.std.proofs.lemmas.List.{take-append-drop}
 use Rattle.std.proofs.lemmas.Bool.Decides.{nat_tests}
 use Rattle.layout.specs.Padded.{all_zeros}
 use Rattle.layout.specs.Heads.{rises, good_pages}
-use Rattle.layout.proofs.Numbers.{false-right}
+use Rattle.std.proofs.lemmas.Bool.{and_right}
 
 rises-true : (low : ℕ) (xs : List ℕ) → (0 < length xs → low ≤ get_or xs 0 0) → ((k : ℕ) → suc k < length xs → get_or xs k 0 < get_or xs (suc k) 0) → rises low xs ≡ true
 rises-true low [] first up = refl
@@ -21,7 +21,7 @@ rises-false : (low k : ℕ) (xs : List ℕ) → suc k < length xs → (get_or xs
 rises-false low k [] within not = absurd (omega arith)
 rises-false low k (x ∷ []) within not = absurd (omega arith)
 rises-false low zero (x ∷ y ∷ xs) within not = grind (arith, nat_tests)
-rises-false low (suc k) (x ∷ y ∷ xs) within not = false-right (leb low x) _ (rises-false (x + 1) k (y ∷ xs) (omega arith) not)
+rises-false low (suc k) (x ∷ y ∷ xs) within not = and_right (leb low x) _ (rises-false (x + 1) k (y ∷ xs) (omega arith) not)
 
 pub rises-answer : (xs : List ℕ) (r : Bool) → IsAllAdjacentAnswer (λ x y b. b ≡ ltb x y) xs r → r ≡ rises 0 xs
 rises-answer xs true up = sym (rises-true 0 xs (λ h. omega arith) (λ k h. let u = up k 0 (rw (add-one k) h) in grind (arith, nat_tests)))
@@ -32,7 +32,7 @@ unfolding good_pages
 pages-many [] zero low limit h = absurd (omega arith)
 pages-many [] (suc n) low limit h = refl
 pages-many (p ∷ ps) zero low limit h = absurd (omega arith)
-pages-many (p ∷ ps) (suc n) low limit h = false-right (leb low p) _ (false-right (ltb p limit) _ (pages-many ps n (p + 1) limit (omega arith)))
+pages-many (p ∷ ps) (suc n) low limit h = and_right (leb low p) _ (and_right (ltb p limit) _ (pages-many ps n (p + 1) limit (omega arith)))
 
 listed-first : (low limit : ℕ) (xs others : List ℕ) → good_pages (length xs) low limit (xs ++ others) ≡ (rises low xs && (list_all (λ p. ltb p limit) xs && all_zeros others))
 unfolding good_pages

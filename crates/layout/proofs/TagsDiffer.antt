@@ -1,6 +1,6 @@
 -- No sector is two of the tagged ones: the fourth letter tells them apart.
-use Rattle.std.proofs.Common.{◌≡◌, ℕ, Bool, true, false, cond, ◌&&◌, eqb, List, get_or, drop, Some, None, Option, sym, refl, ap, ◌∙◌}
-use Rattle.layout.specs.Padded.{all_zeros, tag_is}
+use Rattle.std.proofs.Common.{◌≡◌, ℕ, Bool, true, false, cond, eqb, List, get_or, Some, None, Option, sym, refl, ap, ◌∙◌, arith}
+use Rattle.std.proofs.lemmas.Bool.Decides.{nat_tests}
 use Rattle.layout.specs.Anchors.{decode_anchor}
 use Rattle.layout.specs.Ends.{decode_end}
 use Rattle.layout.specs.Heads.{decode_head}
@@ -9,7 +9,6 @@ use Rattle.layout.specs.Leaders.{decode_leader}
 use Rattle.layout.specs.Tags.{Carries, Alone}
 use Rattle.layout.specs.declared.tagged.Tagged.{Tagged}
 use Rattle.layout.specs.declared.tagged.Tagged.TheVariants.{Header, Anchor, Head, End, Leader, Other}
-use Rattle.layout.proofs.Numbers.{was-open, both-true, tag-letters}
 
 -- The tag of a sector that carries one: an F, and a fourth letter.
 abbrev Letters : List ℕ → Tagged → Type 0
@@ -37,17 +36,11 @@ module _ (count pages : ℕ) (s : List ℕ) where
       (cond (eqb c 72) (from Head (decode_head pages s)) (cond (eqb c 69) (from End (decode_end s)) (cond (eqb c 76) (from Leader (decode_leader s)) Other))))
 
   letters : (t : Tagged) → Carries count pages s t → Letters s t
-  letters (Header h) e =
-      let tag = tag-letters 70 83 68 86 s (both-true (tag_is 70 83 68 86 s) _ (was-open (tag_is 70 83 68 86 s && (eqb (get_or s 4 0) 1 && all_zeros (drop 12 s))) _ h e).0).0 in
-      (tag.0, tag.3)
-  letters (Anchor a) e =
-      let tag = tag-letters 70 83 68 65 s (both-true (tag_is 70 83 68 65 s) _ (was-open (tag_is 70 83 68 65 s && all_zeros (drop 9 s)) _ a e).0).0 in
-      (tag.0, tag.3)
-  letters (Head h) e = let tag = tag-letters 70 83 68 72 s (was-open (tag_is 70 83 68 72 s) _ h e).0 in (tag.0, tag.3)
-  letters (End x) e =
-      let tag = tag-letters 70 83 68 69 s (both-true (tag_is 70 83 68 69 s) _ (was-open (tag_is 70 83 68 69 s && all_zeros (drop 9 s)) _ x e).0).0 in
-      (tag.0, tag.3)
-  letters (Leader l) e = let tag = tag-letters 70 83 68 76 s (was-open (tag_is 70 83 68 76 s) _ l e).0 in (tag.0, tag.3)
+  letters (Header h) e = (grind (arith, nat_tests), grind (arith, nat_tests))
+  letters (Anchor a) e = (grind (arith, nat_tests), grind (arith, nat_tests))
+  letters (Head h) e = (grind (arith, nat_tests), grind (arith, nat_tests))
+  letters (End x) e = (grind (arith, nat_tests), grind (arith, nat_tests))
+  letters (Leader l) e = (grind (arith, nat_tests), grind (arith, nat_tests))
   letters Other e = tt
 
   picked : (t : Tagged) → Carries count pages s t → pick (get_or s 3 0) ≡ t

@@ -4,25 +4,20 @@
 --     padded-front                         a sector whose end is zeros is its front, padded
 --     padded-more                          more fields behind those of a padded sector
 --     gets, padded-gets                    a padded sector by its first bytes, each by itself
-use Rattle.std.proofs.Common.{◌≡◌, ℕ, zero, suc, ◌+◌, ◌-◌, ◌<◌, ◌≤◌, true, eqb, List, [], ◌∷◌, ◌++◌, length, get_or, take, drop, replicate, sym, refl, ap, ◌∙◌, ap₂, add-one, arith}
+use Rattle.std.proofs.Common.{◌≡◌, ℕ, zero, suc, ◌+◌, ◌-◌, ◌<◌, ◌≤◌, true, List, [], ◌∷◌, ◌++◌, length, get_or, take, drop, replicate, sym, refl, ap, ◌∙◌, ap₂, add-one, arith}
 use Rattle.std.proofs.lemmas.List.{drop_more, take-append-drop, take_at, length-drop, length-take, length-append, append_assoc, drop_at, drop-replicate}
-use Rattle.std.proofs.lemmas.Bool.Decides.{nat_tests}
 use borrow.Rule.Slice.PartMut.{put_mid}
+use Rattle.names.proofs.Stored.{zeros-only}
+use Rattle.names.proofs.Texts.{all-zeros}
 use Rattle.layout.specs.Padded.{padded, all_zeros}
-use Rattle.layout.proofs.Numbers.{both-true}
 
 pub zeros-replicate : (n : ℕ) → all_zeros (replicate n 0) ≡ true
 unfolding all_zeros
-zeros-replicate zero = refl
-zeros-replicate (suc n) = zeros-replicate n
+zeros-replicate = zeros-only
 
 pub replicate-zeros : (xs : List ℕ) → all_zeros xs ≡ true → xs ≡ replicate (length xs) 0
 unfolding all_zeros
-replicate-zeros [] h = refl
-replicate-zeros (x ∷ xs) h =
-    let parts = both-true (eqb x 0) (all_zeros xs) h in
-    let is : x ≡ 0 = grind (arith, nat_tests, parts.0) in
-    ap₂ (λ y ys. y ∷ ys) is (replicate-zeros xs parts.1)
+replicate-zeros = all-zeros
 
 pub padded-front : (k : ℕ) (xs : List ℕ) → length xs ≡ 512 → k ≤ 512 → all_zeros (drop k xs) ≡ true → xs ≡ padded (take k xs)
 unfolding padded

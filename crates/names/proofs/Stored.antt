@@ -1,4 +1,5 @@
 -- The bytes of names and keys as they are made.
+--     zeros-only       zeros pass the test of zeros
 --     letters-step     the test of a stored name's bytes, at its first byte
 --     stored-name      a good text filled up with zeros is a name
 --     stored-key       a name and a version are a key
@@ -15,7 +16,7 @@ use Rattle.std.proofs.lemmas.Bool.{and_from, and_parts, eq-eqb, eqb-true, le-leb
 use Rattle.names.specs.Names.{letter, letters, zeros, letters_then_zeros, GoodName, filled, is_name, two_bytes, version_of, is_key, is_byte_key}
 use Rattle.names.specs.Versions.{highest, InRange}
 
-zeros-only : (n : ℕ) → zeros (replicate n 0) ≡ true
+pub zeros-only : (n : ℕ) → zeros (replicate n 0) ≡ true
 zeros-only zero = refl
 zeros-only (suc n) = zeros-only n
 
@@ -44,23 +45,25 @@ stored-name bytes text is good =
     ap is_name is
     ∙ and_from _ _ (and_from _ _ (eq-eqb (length (filled text)) 20 whole) (first-letter text good.0 good.2 (replicate (20 - length text) 0))) (letters-follow text (20 - length text) good.2)
 
-pub stored-key : (key name : List ℕ) (n : ℕ) → key ≡ name ++ two_bytes n → is_name name ≡ true → InRange n → is_key key ≡ true
-stored-key key name n is good range =
-    let long : length name ≡ 20 = eqb-true (length name) 20 (and_parts _ _ (and_parts _ _ good).0).0 in
-    let whole : length key ≡ 22 = ap length is ∙ length-append name (two_bytes n) ∙ omega arith in
-    let front : take 20 key ≡ name = ap (take 20) is ∙ take_at name (two_bytes n) 20 long in
-    let high : get_or key 20 0 ≡ n / 256 % 256 = ap (λ l. get_or l 20 0) is ∙ get_or-append_right name (two_bytes n) 20 20 0 long (omega arith) in
-    let low : get_or key 21 0 ≡ n % 256 = ap (λ l. get_or l 21 0) is ∙ get_or-append_right name (two_bytes n) 20 21 0 long (omega arith) in
-    let version : version_of key ≡ n = omega arith in
-    and_from _ _
-    (and_from _ _ (and_from _ _ (eq-eqb (length key) 22 whole) (ap is_name front ∙ good)) (le-leb 1 (version_of key) (omega arith)))
-    (le-leb (version_of key) highest (omega arith))
+module _ (key name : List ℕ) (n : ℕ) (is : key ≡ name ++ two_bytes n) (good : is_name name ≡ true) (range : InRange n) where
+  long : length name ≡ 20
+  long = eqb-true (length name) 20 (and_parts _ _ (and_parts _ _ good).0).0
 
-pub stored-byte-key : (key name : List ℕ) (n : ℕ) → key ≡ name ++ two_bytes n → is_name name ≡ true → InRange n → is_byte_key key ≡ true
-stored-byte-key key name n is good range =
-    let long : length name ≡ 20 = eqb-true (length name) 20 (and_parts _ _ (and_parts _ _ good).0).0 in
-    let low : get_or key 21 0 ≡ n % 256 = ap (λ l. get_or l 21 0) is ∙ get_or-append_right name (two_bytes n) 20 21 0 long (omega arith) in
-    and_from _ _ (stored-key key name n is good range) (lt-ltb (get_or key 21 0) 256 (omega arith))
+  low : get_or key 21 0 ≡ n % 256
+  low = ap (λ l. get_or l 21 0) is ∙ get_or-append_right name (two_bytes n) 20 21 0 long (omega arith)
+
+  pub stored-key : is_key key ≡ true
+  stored-key =
+      let whole : length key ≡ 22 = ap length is ∙ length-append name (two_bytes n) ∙ omega (arith, long) in
+      let front : take 20 key ≡ name = ap (take 20) is ∙ take_at name (two_bytes n) 20 long in
+      let high : get_or key 20 0 ≡ n / 256 % 256 = ap (λ l. get_or l 20 0) is ∙ get_or-append_right name (two_bytes n) 20 20 0 long (omega arith) in
+      let version : version_of key ≡ n = omega (arith, low) in
+      and_from _ _
+      (and_from _ _ (and_from _ _ (eq-eqb (length key) 22 whole) (ap is_name front ∙ good)) (le-leb 1 (version_of key) (omega arith)))
+      (le-leb (version_of key) highest (omega arith))
+
+  pub stored-byte-key : is_byte_key key ≡ true
+  stored-byte-key = and_from _ _ stored-key (lt-ltb (get_or key 21 0) 256 (omega (arith, low)))
 
 pub filled-empty : (text : List ℕ) → length text ≡ 0 → replicate 20 0 ≡ filled text
 filled-empty [] e = refl

@@ -1,4 +1,5 @@
 -- Every stored name is the filling of a good text.
+--     all-zeros        what passes the test of zeros is zeros
 --     name-text        the text of a name
 use Rattle.std.proofs.Common.{◌≡◌, ℕ, zero, suc, ◌+◌, ◌-◌, ◌≤◌, true, false, cond, ◌&&◌, eqb, List, [], ◌∷◌, ◌++◌, length, get_or, replicate, sym, refl, ap, ◌∙◌, ap₂, arith}
 use Rattle.std.proofs.lemmas.List.{length-append, length-replicate}
@@ -10,7 +11,7 @@ use Rattle.names.specs.Names.{letter, letters, zeros, letters_then_zeros, is_nam
 abbrev Split : List ℕ → Type 0
 Split bytes = (text : List ℕ) × (n : ℕ) × (letters text ≡ true) × (bytes ≡ text ++ replicate n 0)
 
-all-zeros : (bytes : List ℕ) → zeros bytes ≡ true → bytes ≡ replicate (length bytes) 0
+pub all-zeros : (bytes : List ℕ) → zeros bytes ≡ true → bytes ≡ replicate (length bytes) 0
 all-zeros [] h = refl
 all-zeros (b ∷ bytes) h =
     let both = and_parts (eqb b 0) (zeros bytes) h in
