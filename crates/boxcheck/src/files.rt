@@ -1,7 +1,4 @@
 // The register of the small volume: some files are put in, one is taken out again, and what is left is listed.
-ghost use Rattle.std.specs.Prelude.{map, length};
-ghost use Rattle.register.specs.Registers.{IsRegister};
-
 use crate::lines::FileLine;
 use crate::listing::{IMAGES, PLACES};
 use anyhow::anyhow;
@@ -11,7 +8,7 @@ use names::key::Key;
 use names::name::Name;
 use names::version::Version;
 use pages::paged::Paged;
-use register::lookups::{above, page_of};
+use register::lookups::Lookup;
 use register::replay::{Change, replay};
 use register_check::check::check;
 
@@ -49,19 +46,17 @@ fn changes() -> Option<[Change; 6]> {
 }
 
 // Prints a line for each file of a register, in the order of keys, and says how many there are.
-fn list_files<P: Paged>(rt: &HostRuntime, pages: &[P]) -> anyhow::Result<u32>
-    requires { IsRegister (length pages.now) (map P.image pages.now) }
-{
+fn list_files<P: Paged>(rt: &HostRuntime, register: &Lookup<'_, P>) -> anyhow::Result<u32> {
     println!(rt; "name                  version   start  length  page")?;
     let mut bound = Bound::lowest();
     for files in 0..PLACES + 1 {
-        let Some(entry) = above(pages, &bound) else {
+        let Some(entry) = register.above(&bound) else {
             return Ok(files);
         };
         let Some(key) = Key::from_bytes(&entry.key) else {
             return Err(anyhow!("a key of the register is bad"));
         };
-        let page = page_of(pages, &key);
+        let page = register.page_of(&key);
         let line = FileLine { entry, page };
         println!(rt; "{line}")?;
         bound.bytes = entry.key;
@@ -79,7 +74,7 @@ pub fn show_register(rt: &HostRuntime, geometry: &Geometry) -> anyhow::Result<()
         return Err(anyhow!("the register is full"));
     }
     println!(rt; "REGISTER: five files put in, then ROUND-1.1 taken out")?;
-    let files = list_files(rt, &pages)?;
+    let files = list_files(rt, &Lookup::over(&pages))?;
     let free = PLACES.saturating_sub(files);
     println!(rt; "{files} files, {free} of {PLACES} places free")?;
     if let Some(page) = check(&pages, geometry.data_start(), geometry.sectors) {

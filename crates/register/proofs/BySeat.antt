@@ -19,33 +19,32 @@ module _ (P : ℕ) (images : List (List ℕ)) (k : List ℕ) (s : Seat) (h : Sea
   pub home-is : home images k ≡ s.page
   home-is = ap (λ i. (get_or (items_of images) i no_item).page) (sym h.at) ∙ sym h.page
 
-  pub put-by-seat : (e : Entry) → k ≡ e.key → let es = put_at (leaf_of images s.page) s.place e in
-      put_writes P e images ≡ cond (ltb s.held 15) (write s.page (leaf_page es) ∷ []) (split_writes s.at s.page (lowest (P - 1) 1 (pages_of (items_of images))) (items_of images) es)
+  pub put-by-seat : (e : Entry) → k ≡ e.key → let es = put_at s.leaf s.place e in
+      put_writes P e images ≡ cond (ltb (length s.leaf) 15) (write s.page (leaf_page es) ∷ []) (split_writes s.at s.page (lowest (P - 1) 1 (pages_of s.items)) s.items es)
   unfolding put_writes
   put-by-seat e kk =
+      let by = λ (is : List Item) (i p n : ℕ) (es : List Entry). cond (ltb n 15) (write p (leaf_page es) ∷ []) (split_writes i p (lowest (P - 1) 1 (pages_of is)) is es) in
       let is = items_of images in
-      let q = lowest (P - 1) 1 (pages_of is) in
-      let by = λ (i p n : ℕ) (es : List Entry). cond (ltb n 15) (write p (leaf_page es) ∷ []) (split_writes i p q is es) in
-      let at = λ (i p : ℕ). by i p (length (leaf_of images p)) (with_entry (leaf_of images p) e) in
+      let at = λ (i p : ℕ). by is i p (length (leaf_of images p)) (with_entry (leaf_of images p) e) in
       ap (λ k. at (seat is k) (home images k)) (sym kk) ∙ ap (λ i. at i (home images k)) (sym h.at) ∙ ap (at s.at) home-is
-      ∙ ap (λ n. by s.at s.page n (with_entry (leaf_of images s.page) e)) (sym h.held)
-      ∙ ap (λ j. by s.at s.page s.held (put_at (leaf_of images s.page) j e)) (ap (λ k. up_to before k (map key_of (leaf_of images s.page))) (sym kk) ∙ sym h.place)
+      ∙ ap (λ j. by is s.at s.page (length (leaf_of images s.page)) (put_at (leaf_of images s.page) j e)) (ap (λ k. up_to before k (map key_of (leaf_of images s.page))) (sym kk) ∙ sym h.place)
+      ∙ ap (λ es. by is s.at s.page (length es) (put_at es s.place e)) (sym h.leaf) ∙ ap (λ is. by is s.at s.page (length s.leaf) (put_at s.leaf s.place e)) (sym h.items)
 
-  pub take-by-seat : let es = without (leaf_of images s.page) (s.place - 1) in
-      take_writes k images ≡ cond (ltb 1 s.count && eqb (length es) 0) (write s.page (leaf_page es) ∷ write 0 (root_page (zero_first (without (items_of images) s.at))) ∷ []) (write s.page (leaf_page es) ∷ [])
+  pub take-by-seat : let es = without s.leaf (s.place - 1) in
+      take_writes k images ≡ cond (ltb 1 (length s.items) && eqb (length es) 0) (write s.page (leaf_page es) ∷ write 0 (root_page (zero_first (without s.items s.at))) ∷ []) (write s.page (leaf_page es) ∷ [])
   unfolding take_writes
   take-by-seat =
+      let by = λ (is : List Item) (i p : ℕ) (es : List Entry). cond (ltb 1 (length is) && eqb (length es) 0) (write p (leaf_page es) ∷ write 0 (root_page (zero_first (without is i))) ∷ []) (write p (leaf_page es) ∷ []) in
       let is = items_of images in
-      let by = λ (i p c : ℕ) (es : List Entry). cond (ltb 1 c && eqb (length es) 0) (write p (leaf_page es) ∷ write 0 (root_page (zero_first (without is i))) ∷ []) (write p (leaf_page es) ∷ []) in
-      let at = λ (i p : ℕ). by i p (length is) (less_entry (leaf_of images p) k) in
-      ap (λ i. at i (home images k)) (sym h.at) ∙ ap (at s.at) home-is ∙ ap (λ c. by s.at s.page c (less_entry (leaf_of images s.page) k)) (sym h.count)
-      ∙ ap (λ j. by s.at s.page s.count (without (leaf_of images s.page) (j - 1))) (sym h.place)
+      let at = λ (i p : ℕ). by is i p (less_entry (leaf_of images p) k) in
+      ap (λ i. at i (home images k)) (sym h.at) ∙ ap (at s.at) home-is ∙ ap (λ j. by is s.at s.page (without (leaf_of images s.page) (j - 1))) (sym h.place)
+      ∙ ap (λ es. by is s.at s.page (without es (s.place - 1))) (sym h.leaf) ∙ ap (λ is. by is s.at s.page (without s.leaf (s.place - 1))) (sym h.items)
 
-  pub full-by-seat : is_full P images k ≡ (not (ltb s.held 15) && not (ltb s.count (most_items P)))
+  pub full-by-seat : is_full P images k ≡ (not (ltb (length s.leaf) 15) && not (ltb (length s.items) (most_items P)))
   full-by-seat =
       ap (λ p. not (ltb (length (leaf_of images p)) 15) && not (ltb (length (items_of images)) (most_items P))) home-is
-      ∙ ap (λ n. not (ltb n 15) && not (ltb (length (items_of images)) (most_items P))) (sym h.held)
-      ∙ ap (λ n. not (ltb s.held 15) && not (ltb n (most_items P))) (sym h.count)
+      ∙ ap (λ n. not (ltb n 15) && not (ltb (length (items_of images)) (most_items P))) (ap length (sym h.leaf))
+      ∙ ap (λ n. not (ltb (length s.leaf) 15) && not (ltb n (most_items P))) (ap length (sym h.items))
 
 module _ {X : Type 0} (written : X → List ℕ → X) (pages : List X) where
   pub put-leaf : (one : List X) (p : ℕ) (es fs : List Entry) → one ≡ edit (λ x. written x (leaf_page es)) p pages → es ≡ fs → one ≡ wrote written (write p (leaf_page fs) ∷ []) pages

@@ -1,8 +1,6 @@
 -- What a leaf holds for a key, by the key's place: how many entries, from the first on, are not above it.
---     place-within                 the place is at most the number of entries
 --     look_up-none                 at place 0 the key has no entry
 --     look_up-at                   else it is the entry before the place, if that is not below the key
---     not-above                    the entry before the place is not above the key
 --     above-at, above-past         the lowest entry above the key is the one at the place; at the end there is none
 --     up_to-at, up_to-none         the highest entry not above it is the one before the place; at place 0 there is none
 --     first-at, last-at            the first entry and the last
@@ -15,11 +13,6 @@ use Rattle.rows.specs.Lists.{up_to, look_up, first_above, last_up_to, Sorted, or
 use Rattle.rows.proofs.Sorting.{not_back, last-right}
 use Rattle.pages.specs.declared.records.Entry.{Entry}
 use Rattle.register.specs.Images.{key_of, no_entry}
-use Rattle.register.proofs.FoundEntries.{Found, last-there}
-
-pub place-within : (k : List ℕ) (es : List Entry) → up_to before k (map key_of es) ≤ length es
-place-within k [] = omega arith
-place-within k (x ∷ xs) = let h = place-within k xs in grind (arith, cases_Bool (before k x.key))
 
 -- the entry before a place, or none
 abbrev prior : ℕ → List Entry → Entry → Option Entry
@@ -91,13 +84,6 @@ module _ (k : List ℕ) (es : List Entry) (p : ℕ) (is : p ≡ up_to before k (
 
   pub look_up-at : (d : Entry) → Sorted key_of before es → 1 ≤ p → look_up key_of before k es ≡ cond (before (get_or es (p - 1) d).key k) None (Some (get_or es (p - 1) d))
   look_up-at d s l = look_up-last k es s ∙ ap (unless-below k) (up_to-at d l)
-
-  pub not-above : (d : Entry) → 1 ≤ p → before k (get_or es (p - 1) d).key ≡ false
-  not-above d l = (subst (Found (λ e. Unit {0} × (before k e.key ≡ false))) (up_to-at d l) (last-there (λ e. Unit {0}) k es (all es))).1
-    where
-      all : (es : List Entry) → AllByRecursion (λ e. Unit {0}) es
-      all [] = tt
-      all (e ∷ es) = (tt, all es)
 
 pub first-at : (es : List Entry) (d : Entry) → 0 < length es → first es ≡ Some (get_or es 0 d)
 first-at [] d l = absurd (omega arith)

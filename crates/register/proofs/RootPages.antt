@@ -1,10 +1,12 @@
--- The pages that items name, one turn of a search at a time.
---     has-turn, has_end        whether a page is named, at one item and past the last
---     low_turn                 the lowest page that is not named, at one page
---     free-below               with fewer items than leaves there may be, that page is one of the register's
---     zero_first-made          the first separator set to zeros
-use Rattle.std.proofs.Common.{◌≡◌, ℕ, zero, suc, ◌+◌, ◌-◌, ◌<◌, ◌≤◌, false, cond, ◌||◌, eqb, List, [], ◌∷◌, length, get_or, take, drop, set, sym, refl, ap, ◌∙◌, add-one, arith}
-use Rattle.std.proofs.lemmas.List.{at_drop_more, at_drop_all, length-map}
+-- The pages that items name, and what writes of the root leave.
+--     lowest-found     the lowest page that is not named, by a search from the first on
+--     free-below       with fewer items than leaves there may be, that page is one of the register's
+--     zero_first-made  the first separator set to zeros
+--     split-made       what a split writes, one page after another
+use Rattle.std.proofs.Common.{◌≡◌, ℕ, zero, suc, ◌+◌, ◌-◌, ◌<◌, ◌≤◌, inl, inr, true, false, cond, List, [], ◌∷◌, length, get_or, take, drop, set, Some, None, Option, sym, refl, ap, ◌∙◌, subst, add-one, arith}
+use Rattle.std.specs.Option.{MatchOption, unwrap_or}
+use Rattle.std.proofs.lemmas.Bool.{cases_eq}
+use Rattle.std.proofs.lemmas.List.{length-map}
 use Rattle.tree.specs.Tree.{has, lowest}
 use Rattle.tree.proofs.Pages.{lowest_free}
 use Rattle.pages.specs.declared.records.Item.{Item}
@@ -13,26 +15,33 @@ use Rattle.pages.specs.Writes.{edit, wrote}
 use Rattle.pages.specs.declared.records.Entry.{Entry}
 use Rattle.register.specs.Images.{no_item, no_entry, item, zero_key, zero_first, pages_of, leaf_page, root_page, split_writes}
 
-pub has-turn : (p : ℕ) (is : List Item) (i : ℕ) (d : Item) → i < length is → has p (pages_of (drop i is)) ≡ (eqb p (get_or is i d).page || has p (pages_of (drop (i + 1) is)))
-has-turn p is i d l = at_drop_more (λ is. has p (pages_of is)) is i d l
+lowest-at : (n q p : ℕ) (ps : List ℕ) → q ≤ p → p < q + n → has p ps ≡ false → ((k : ℕ) → q ≤ k → k < p → has k ps ≡ true) → p ≡ lowest n q ps
+lowest-at zero q p ps a b h f = absurd (omega arith)
+lowest-at (suc n) q p ps a b h f =
+    elim (cases_eq p q) [
+      | inl e ↦ e ∙ ap (λ b. cond b (lowest n (suc q) ps) q) (sym (subst (λ k. has k ps ≡ false) e h))
+      | inr ne ↦ lowest-at n (suc q) p ps (omega arith) (omega arith) h (λ k l m. f k (omega arith) m) ∙ ap (λ b. cond b (lowest n (suc q) ps) q) (sym (f q (omega arith) (omega arith)))
+    ]
 
-pub has_end : (p : ℕ) (is : List Item) (i : ℕ) → length is ≤ i → has p (pages_of (drop i is)) ≡ false
-has_end p is i l = at_drop_all (λ is. has p (pages_of is)) is i l
+lowest_none : (n q : ℕ) (ps : List ℕ) → ((k : ℕ) → q ≤ k → k < q + n → has k ps ≡ true) → q + n ≡ lowest n q ps
+lowest_none zero q ps f = omega arith
+lowest_none (suc n) q ps f =
+    let next = lowest_none n (suc q) ps (λ k l m. f k (omega arith) (omega arith)) in
+    let e : q + suc n ≡ suc q + n = omega arith in
+    e ∙ next ∙ ap (λ b. cond b (lowest n (suc q) ps) q) (sym (f q (omega arith) (omega arith)))
 
-pub low_turn : (ps : List ℕ) (n q : ℕ) → q < n → lowest (n - q) q ps ≡ cond (has q ps) (lowest (n - (q + 1)) (q + 1) ps) q
-low_turn ps n q l =
-    let e : n - q ≡ suc (n - (q + 1)) = omega arith in
-    ap (λ m. lowest m q ps) e ∙ ap (λ r. cond (has q ps) (lowest (n - (q + 1)) r ps) q) (sym (add-one q))
+pub lowest-found : (P : ℕ) (ps : List ℕ) (r : Option ℕ) → 1 ≤ P
+    → MatchOption r ((k : ℕ) → 1 ≤ k → k < P → has k ps ≡ true) (λ i. (1 ≤ i) × (i < P) × (has i ps ≡ false) × ((k : ℕ) → 1 ≤ k → k < i → has k ps ≡ true)) → unwrap_or r P ≡ lowest (P - 1) 1 ps
+lowest-found P ps None l f = let e : P ≡ 1 + (P - 1) = omega arith in e ∙ lowest_none (P - 1) 1 ps (λ k a b. f k a (omega arith))
+lowest-found P ps (Some i) l f = lowest-at (P - 1) 1 i ps f.0 (omega (arith, f.1)) f.2 f.3
 
 pub free-below : (is : List Item) (P : ℕ) → length is < P - 1 → lowest (P - 1) 1 (pages_of is) < P
 free-below is P l = let g = lowest_free (P - 1) 1 (pages_of is) (simp length-map (omega arith)) in omega (arith, g.below)
 
-pub zero_first-made : (xs : List Item) (n : ℕ) → 0 < n → take n (set xs 0 (item zero_key (get_or xs 0 no_item).page)) ≡ zero_first (take n xs)
-zero_first-made xs zero l = absurd (omega arith)
-zero_first-made [] (suc m) l = refl
-zero_first-made (x ∷ xs) (suc m) l = refl
+pub zero_first-made : (xs : List Item) → set xs 0 (item zero_key (get_or xs 0 no_item).page) ≡ zero_first xs
+zero_first-made [] = refl
+zero_first-made (x ∷ xs) = refl
 
--- what a split writes, one page after another
 pub split-made : {X : Type 0} (written : X → List ℕ → X) (pages one two three : List X) (is items : List Item) (es a b : List Entry) (i p q : ℕ)
     → one ≡ edit (λ x. written x (leaf_page a)) p pages → a ≡ take 8 es → two ≡ edit (λ x. written x (leaf_page b)) q one → b ≡ drop 8 es
     → three ≡ edit (λ x. written x (root_page items)) 0 two → items ≡ put_at is (i + 1) (item (get_or es 8 no_entry).key q)

@@ -3,6 +3,7 @@
 --     taken, kept      what carrying out a change leaves: a key's entry taken out or none, and a key to be put in that is there
 --     told-push        a list with one change more
 --     refused, granted     what carrying out a change leaves, by whether it was refused
+--     stopped              a change that is refused is refused on the same pages
 use Rattle.std.proofs.Common.{◌≡◌, ℕ, true, false, cond, is_some, List, [], ◌∷◌, ◌++◌, map, length, Some, None, Ok, Err, Option, Result, sym, refl, ap, ◌∙◌, subst, arith}
 use Rattle.std.proofs.lemmas.Bool.{cases_Bool}
 use Rattle.std.specs.Result.{is_err}
@@ -65,3 +66,6 @@ module _ {X : Type 0} (image : X → List ℕ) (written : X → List ℕ → X) 
       → IsRegister (length pages) (map image after) × (entries_of (map image after) ≡ changed c (entries_of (map image pages)))
   granted (Ok _) h e = (h.0, h.1)
   granted (Err x) h e = absurd (let z : ◌≡◌ {A = ℕ} 0 1 = cc in omega arith)
+
+pub stopped : {X : Type 0} (image : X → List ℕ) {pages now after : List X} {P : ℕ} {c d : Change} → after ≡ now → now ≡ pages → length pages ≡ P → c ≡ d → Refuses (length pages) (map image pages) c → Refuses P (map image after) d
+stopped image {pages = pages} {after = after} {d = d} left same long is because = subst (λ n. Refuses n (map image after) d) long (subst (λ ps. Refuses (length pages) (map image ps) d) (sym (left ∙ same)) (subst (Refuses (length pages) (map image pages)) is because))

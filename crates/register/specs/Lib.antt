@@ -1,5 +1,6 @@
 pub mod Images
 pub mod Registers
+pub mod OneProof
 pub mod Seats
 pub mod Changes
 pub mod Said

@@ -27,8 +27,8 @@ pub fn fresh_page(page: usize) -> [u8; 512]
     image
 }
 
-/// Writes the pages of a fresh volume: a register with no entries.
-pub fn format<P: Paged>(pages: &mut [P])
+// Writes the pages of a fresh volume: a register with no entries.
+pub(crate) fn write_fresh<P: Paged>(pages: &mut [P])
     requires least { 2 ≤ length pages.old }
     requires most { length pages.old ≤ 21 }
     ensures writes { pages.new ≡ wrote P.written (fresh_writes 0 (length pages.old)) pages.old }

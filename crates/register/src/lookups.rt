@@ -1,122 +1,152 @@
-// What the register has of a key, and of a name.
-ghost use Rattle.std.specs.Prelude.{◌≡◌, map, length};
+// Look ups over pages that are lent: what the register has of a key, and of a name.
+ghost use Rattle.std.specs.Prelude.{◌≡◌, ◌<◌, not, false, map, length};
 ghost use Rattle.names.specs.Orders.{before};
 ghost use Rattle.rows.specs.Lists.{look_up, first_above, last_up_to};
-ghost use Rattle.register.specs.Calls.{NextFree};
-ghost use Rattle.register.specs.Images.{key_of, entries_of, home};
+ghost use Rattle.register.specs.Calls.{Full, NextFree};
+ghost use Rattle.register.specs.Images.{key_of, leaf_of, entries_of, home, is_full};
 ghost use Rattle.register.specs.Registers.{IsRegister};
+ghost use Rattle.register.specs.OneProof.{IsRegister-prop};
 ghost use Rattle.register.specs.Names.{has_name, newest_of, highest_version_of};
+ghost use Rattle.register.specs.Seats.{Seated};
 
-use crate::seats::{NO_ENTRY, NO_ITEM, home, read_leaf};
+use crate::seats::Seat;
 use names::bound::Bound;
 use names::key::{Key, version_of};
 use names::name::Name;
 use names::version::HIGHEST;
-use pages::paged::Paged;
+use pages::page::read_row;
+use pages::paged::{Paged, image_at};
 use pages::records::{Entry, Item};
 use rows::keyed::Keyed;
+use rows::row::Row;
 
-/// The entry of a key.
-pub fn find<P: Paged>(pages: &[P], key: &Key) -> Option<Entry>
-    requires { IsRegister (length pages.now) (map P.image pages.now) }
-    ensures { result ≡ look_up key_of before key.now.bytes (entries_of (map P.image pages.now)) }
-{
-    let mut items = [NO_ITEM; 20];
-    let mut records = [NO_ENTRY; 16];
-    let seat = home(pages, &key.bytes, &mut items, &mut records);
-    if seat.place == 0 {
-        return None;
-    }
-    let last = records[seat.place - 1];
-    if <Entry as Keyed>::comes_before(&last.key, &key.bytes) {
-        return None;
-    }
-    Some(last)
-}
-
-// The lowest entry above these bytes.
-fn first_above<P: Paged>(pages: &[P], bytes: &[u8; 22]) -> Option<Entry>
-    requires { IsRegister (length pages.now) (map P.image pages.now) }
-    ensures { result ≡ first_above key_of before bytes.now (entries_of (map P.image pages.now)) }
-{
-    let mut items = [NO_ITEM; 20];
-    let mut records = [NO_ENTRY; 16];
-    let seat = home(pages, bytes, &mut items, &mut records);
-    if seat.place < seat.held {
-        return Some(records[seat.place]);
-    }
-    let next = seat.at + 1;
-    if next >= seat.count {
-        return None;
-    }
-    let page = items[next].page as usize;
-    read_leaf(pages, page, &mut records);
-    Some(records[0])
-}
-
-/// The lowest entry above a bound.
-pub fn above<P: Paged>(pages: &[P], bound: &Bound) -> Option<Entry>
-    requires { IsRegister (length pages.now) (map P.image pages.now) }
-    ensures { result ≡ first_above key_of before bound.now.bytes (entries_of (map P.image pages.now)) }
-{
-    first_above(pages, &bound.bytes)
-}
-
-// The highest entry that is not above these bytes.
-fn last_up_to<P: Paged>(pages: &[P], bytes: &[u8; 22]) -> Option<Entry>
-    requires { IsRegister (length pages.now) (map P.image pages.now) }
-    ensures { result ≡ last_up_to key_of before bytes.now (entries_of (map P.image pages.now)) }
-{
-    let mut items = [NO_ITEM; 20];
-    let mut records = [NO_ENTRY; 16];
-    let seat = home(pages, bytes, &mut items, &mut records);
-    if seat.place > 0 {
-        return Some(records[seat.place - 1]);
-    }
-    if seat.at == 0 {
-        return None;
-    }
-    let page = items[seat.at - 1].page as usize;
-    let held = read_leaf(pages, page, &mut records);
-    Some(records[held - 1])
+/// Pages that are lent and hold a register.
+#[derive(Drop)]
+pub struct Lookup<'a, P: Paged> {
+    pub pages: &'a [P],
+    ghost kept: { IsRegister (length pages.now) (map P.image pages.now) } by { IsRegister-prop (length pages.now) (map P.image pages.now) },
 }
 
 // Whether an entry is of this name.
 fn is_of(entry: &Entry, name: &Name) -> bool
     ensures { result ≡ has_name name.now.bytes entry.now }
 {
-    entry.key[0..20] == name.bytes[0..20]
+    entry.key.starts_with(&name.bytes)
 }
 
-/// The entry of a name's newest version.
-pub fn newest<P: Paged>(pages: &[P], name: &Name) -> Option<Entry>
-    requires { IsRegister (length pages.now) (map P.image pages.now) }
-    ensures { result ≡ newest_of name.now.bytes (entries_of (map P.image pages.now)) }
-{
-    let bound = Bound::at(name, HIGHEST);
-    let last = last_up_to(pages, &bound.bytes)?;
-    if is_of(&last, name) { Some(last) } else { None }
-}
-
-/// The highest version of a name, or 0.
-pub fn highest_version<P: Paged>(pages: &[P], name: &Name) -> u16
-    requires { IsRegister (length pages.now) (map P.image pages.now) }
-    ensures value { result ≡ highest_version_of name.now.bytes (entries_of (map P.image pages.now)) }
-    ensures next { NextFree name.now.bytes result (entries_of (map P.image pages.now)) }
-{
-    match newest(pages, name) {
-        Some(entry) => version_of(&entry.key),
-        None => 0,
+impl<'a, P: Paged> Lookup<'a, P> {
+    /// The register on these pages.
+    pub fn over(pages: &'a [P]) -> Lookup<'a, P>
+        requires { IsRegister (length pages.now) (map P.image pages.now) }
+        ensures { result.pages.now ≡ pages.now }
+    {
+        Lookup { pages }
     }
-}
 
-/// The page of the leaf that a key belongs to.
-pub fn page_of<P: Paged>(pages: &[P], key: &Key) -> usize
-    requires { IsRegister (length pages.now) (map P.image pages.now) }
-    ensures { result ≡ home (map P.image pages.now) key.now.bytes }
-{
-    let mut items = [NO_ITEM; 20];
-    let mut records = [NO_ENTRY; 16];
-    let seat = home(pages, &key.bytes, &mut items, &mut records);
-    seat.page
+    // The entries of a leaf.
+    fn leaf(&self, page: usize) -> Row<Entry, 16>
+        requires { page < length self.now.pages.now }
+        ensures { result ≡ leaf_of (map P.image self.now.pages.now) page }
+    {
+        read_row(&image_at(self.pages, page), 15)
+    }
+
+    // Reads the root, and the leaf that a key belongs to: that of the last item whose separator is not above it.
+    pub(crate) fn home(&self, key: &[u8; 22]) -> Seat
+        ensures seated { Seated (length self.now.pages.now) (map P.image self.now.pages.now) key.now result }
+        ensures long { length key.now ≡ 22 }
+    {
+        let items: Row<Item, 20> = read_row(&image_at(self.pages, 0), 20);
+        let at = items.find(key) - 1;
+        let page = items.as_slice()[at].page as usize;
+        let leaf = self.leaf(page);
+        let place = leaf.find(key);
+        Seat {
+            items,
+            at,
+            page,
+            leaf,
+            place,
+        }
+    }
+
+    /// The entry of a key.
+    pub fn find(&self, key: &Key) -> Option<Entry>
+        ensures { result ≡ look_up key_of before key.now.bytes (entries_of (map P.image self.now.pages.now)) }
+    {
+        let seat = self.home(&key.bytes);
+        if seat.place == 0 {
+            return None;
+        }
+        let last = seat.leaf.as_slice()[seat.place - 1];
+        if Entry::comes_before(&last.key, &key.bytes) {
+            return None;
+        }
+        Some(last)
+    }
+
+    /// The lowest entry above a bound.
+    pub fn above(&self, bound: &Bound) -> Option<Entry>
+        ensures { result ≡ first_above key_of before bound.now.bytes (entries_of (map P.image self.now.pages.now)) }
+    {
+        let seat = self.home(&bound.bytes);
+        if seat.place < seat.leaf.len() {
+            return Some(seat.leaf.as_slice()[seat.place]);
+        }
+        let next = seat.at + 1;
+        if next >= seat.items.len() {
+            return None;
+        }
+        let leaf = self.leaf(seat.items.as_slice()[next].page as usize);
+        Some(leaf.as_slice()[0])
+    }
+
+    // The highest entry that is not above a bound.
+    fn last_up_to(&self, bound: &Bound) -> Option<Entry>
+        ensures { result ≡ last_up_to key_of before bound.now.bytes (entries_of (map P.image self.now.pages.now)) }
+    {
+        let seat = self.home(&bound.bytes);
+        if seat.place > 0 {
+            return Some(seat.leaf.as_slice()[seat.place - 1]);
+        }
+        if seat.at == 0 {
+            return None;
+        }
+        let leaf = self.leaf(seat.items.as_slice()[seat.at - 1].page as usize);
+        Some(leaf.as_slice()[leaf.len() - 1])
+    }
+
+    /// The entry of a name's newest version.
+    pub fn newest(&self, name: &Name) -> Option<Entry>
+        ensures { result ≡ newest_of name.now.bytes (entries_of (map P.image self.now.pages.now)) }
+    {
+        let last = self.last_up_to(&Bound::at(name, HIGHEST))?;
+        if is_of(&last, name) { Some(last) } else { None }
+    }
+
+    /// The highest version of a name, or 0.
+    pub fn highest_version(&self, name: &Name) -> u16
+        ensures value { result ≡ highest_version_of name.now.bytes (entries_of (map P.image self.now.pages.now)) }
+        ensures next { NextFree name.now.bytes result (entries_of (map P.image self.now.pages.now)) }
+    {
+        match self.newest(name) {
+            Some(entry) => version_of(&entry.key),
+            None => 0,
+        }
+    }
+
+    /// The page of the leaf that a key belongs to.
+    pub fn page_of(&self, key: &Key) -> usize
+        ensures { result ≡ home (map P.image self.now.pages.now) key.now.bytes }
+    {
+        self.home(&key.bytes).page
+    }
+
+    /// Whether the register takes a new entry of this key.
+    pub fn has_room(&self, key: &Key) -> bool
+        ensures value { result ≡ not (is_full (length self.now.pages.now) (map P.image self.now.pages.now) key.now.bytes) }
+        ensures full { result ≡ false → Full (length self.now.pages.now) (map P.image self.now.pages.now) key.now.bytes }
+    {
+        self.home(&key.bytes).has_room(self.pages.len())
+    }
 }

@@ -2,17 +2,14 @@
 ghost use Rattle.std.specs.Prelude.{◌≡◌, ℕ, ◌≤◌, List, [], map, length, take};
 ghost use Rattle.names.specs.Orders.{before};
 ghost use Rattle.rows.specs.Lists.{Sorted, look_up};
-ghost use Rattle.register.specs.Changes.{told, Carries, Stops};
+ghost use Rattle.register.specs.Changes.{told, Stops};
 ghost use Rattle.register.specs.Images.{key_of, entries_of};
 ghost use Rattle.register.specs.Registers.{IsRegister};
 ghost use Rattle.register.specs.Said.{said};
 
-use crate::changes::{put_in, take_out};
-use crate::fresh::format;
-use crate::lookups::find;
+use crate::changes::Register;
 use names::key::Key;
 use pages::paged::Paged;
-use refusal::Refusal;
 
 /// A change of a register.
 #[derive(Clone, Copy)]
@@ -21,25 +18,6 @@ pub enum Change {
     Put { key: Key, start: u32, length: u32 },
     /// The entry of a key is taken out, if there is one.
     Take { key: Key },
-}
-
-/// Carries out a change, or refuses it with 5; then nothing changes.
-pub fn carry_out<P: Paged>(pages: &mut [P], change: &Change) -> Result<(), Refusal>
-    requires { IsRegister (length pages.old) (map P.image pages.old) }
-    ensures { Carries P.image P.written change.now pages.old result pages.new }
-{
-    match change {
-        Change::Put { key, start, length } => {
-            if find(pages, key).is_some() {
-                return Ok(());
-            }
-            put_in(pages, key, *start, *length)
-        }
-        Change::Take { key } => {
-            let _ = take_out(pages, key);
-            Ok(())
-        }
-    }
 }
 
 /// Formats the pages and carries out changes on them in order, up to the first that is refused. Answers how many were carried out.
@@ -53,9 +31,9 @@ pub fn replay<P: Paged>(pages: &mut [P], changes: &[Change]) -> usize
     ensures says { (k : List ℕ) → look_up key_of before k (entries_of (map P.image pages.new)) ≡ said k (take result changes.now) }
     ensures full { Stops (length pages.old) (map P.image pages.new) result changes.now }
 {
-    format(pages);
+    let mut register = Register::format(pages);
     for (i, change) in changes.iter().enumerate() {
-        if carry_out(pages, change).is_err() {
+        if register.carry_out(change).is_err() {
             return i;
         }
     }

@@ -1,46 +1,19 @@
-// Writes of leaves and of the root, and the pages that the root's items name.
-ghost use Rattle.std.specs.Prelude.{◌≡◌, ◌+◌, ◌-◌, ◌<◌, ◌≤◌, List, map, length, take};
+// The pages that the root's items name, and writes that change the root.
+ghost use Rattle.std.specs.Prelude.{◌≡◌, ◌-◌, ◌<◌, ◌≤◌, length};
 ghost use Rattle.rows.specs.Lists.{without};
 ghost use Rattle.tree.specs.Tree.{has, lowest};
 ghost use Rattle.pages.specs.Writes.{edit, wrote};
-ghost use Rattle.register.specs.Images.{leaf_page, root_page, pages_of, split_writes, zero_first};
+ghost use Rattle.register.specs.Images.{root_page, pages_of, split_writes, zero_first};
 
-use crate::seats::Seat;
-use pages::page::write_page;
-use pages::paged::{Paged, write_at};
-use pages::records::{Entry, Item};
-use rows::row::{put_into, take_from};
-
-pub(crate) fn write_leaf<P: Paged>(pages: &mut [P], page: usize, entries: &[Entry])
-    requires there { page < length pages.old }
-    requires few { length entries.now ≤ 15 }
-    ensures { pages.new ≡ edit (λ p. P.written p (leaf_page entries.now)) page pages.old }
-{
-    let mut image = [0; 512];
-    write_page(b'L', entries, &mut image);
-    write_at(pages, page, &image);
-}
-
-pub(crate) fn write_root<P: Paged>(pages: &mut [P], items: &[Item])
-    requires there { 0 < length pages.old }
-    requires few { length items.now ≤ 20 }
-    ensures { pages.new ≡ edit (λ p. P.written p (root_page items.now)) 0 pages.old }
-{
-    let mut image = [0; 512];
-    write_page(b'R', items, &mut image);
-    write_at(pages, 0, &image);
-}
+use crate::seats::{Seat, write_records};
+use pages::paged::Paged;
+use pages::records::Item;
 
 // Whether an item names a page.
 fn names(items: &[Item], page: usize) -> bool
     ensures { result ≡ has page (pages_of items.now) }
 {
-    for item in items {
-        if item.page as usize == page {
-            return true;
-        }
-    }
-    false
+    items.iter().any(|item| page == item.page as usize)
 }
 
 // The lowest page from 1 on that no item names.
@@ -49,41 +22,42 @@ fn lowest_free(items: &[Item], pages: usize) -> usize
     requires few { pages ≤ 21 }
     ensures { result ≡ lowest (pages - 1) 1 (pages_of items.now) }
 {
-    let mut page = 1;
-    while page < pages && names(items, page) {
-        page += 1;
-    }
-    page
+    (1..pages)
+        .find(|page| !names(items, *page))
+        .unwrap_or(pages)
 }
 
 // Writes two halves of a leaf of 16 entries, and the root with one item more.
-pub(crate) fn split<P: Paged>(pages: &mut [P], seat: Seat, items: &mut [Item], entries: &[Entry])
-    requires room { (seat.count < 20) × (seat.at < seat.count) }
-    requires lent { (length items.old ≡ 20) × (length entries.now ≡ 16) }
+pub(crate) fn split<P: Paged>(pages: &mut [P], mut seat: Seat)
+    requires room { (length seat.items < 20) × (seat.at < length seat.items) }
+    requires full { length seat.leaf ≡ 16 }
     requires pages { (seat.page < length pages.old) × (length pages.old ≤ 21) }
-    requires free { lowest (length pages.old - 1) 1 (pages_of (take seat.count items.old)) < length pages.old }
-    ensures { pages.new ≡ wrote P.written (split_writes seat.at seat.page (lowest (length pages.old - 1) 1 (pages_of (take seat.count items.old))) (take seat.count items.old) entries.now) pages.old }
+    requires free { lowest (length pages.old - 1) 1 (pages_of seat.items) < length pages.old }
+    ensures { pages.new ≡ wrote P.written (split_writes seat.at seat.page (lowest (length pages.old - 1) 1 (pages_of seat.items)) seat.items seat.leaf) pages.old }
 {
-    let count = seat.count;
-    let page = lowest_free(&items[0..count], pages.len());
-    write_leaf(pages, seat.page, &entries[0..8]);
-    write_leaf(pages, page, &entries[8..16]);
+    let page = lowest_free(seat.items.as_slice(), pages.len());
+    let entries = seat.leaf.as_slice();
+    write_records(pages, seat.page, b'L', &entries[0..8]);
+    write_records(pages, page, b'L', &entries[8..16]);
     let item = Item {
         separator: entries[8].key,
         page: page as u16,
     };
-    put_into(items, count, seat.at + 1, item);
-    write_root(pages, &items[0..count + 1]);
+    seat.items.put_in(seat.at + 1, item);
+    write_records(pages, 0, b'R', seat.items.as_slice());
 }
 
 // Writes the root without an item, its first separator zeros.
-pub(crate) fn drop_item<P: Paged>(pages: &mut [P], seat: Seat, items: &mut [Item])
-    requires place { (seat.at < seat.count) × (1 < seat.count) × (seat.count ≤ 20) }
-    requires lent { (length items.old ≡ 20) × (0 < length pages.old) }
-    ensures { pages.new ≡ edit (λ p. P.written p (root_page (zero_first (without (take seat.count items.old) seat.at)))) 0 pages.old }
+pub(crate) fn drop_item<P: Paged>(pages: &mut [P], mut seat: Seat)
+    requires place { (seat.at < length seat.items) × (1 < length seat.items) × (length seat.items ≤ 20) }
+    requires lent { 0 < length pages.old }
+    ensures { pages.new ≡ edit (λ p. P.written p (root_page (zero_first (without seat.items seat.at)))) 0 pages.old }
 {
-    let left = seat.count - 1;
-    take_from(items, seat.count, seat.at);
-    items[0].separator = [0; 22];
-    write_root(pages, &items[0..left]);
+    seat.items.take_out(seat.at);
+    let first = Item {
+        separator: [0; 22],
+        page: seat.items.as_slice()[0].page,
+    };
+    seat.items.replace(0, first);
+    write_records(pages, 0, b'R', seat.items.as_slice());
 }

@@ -1,83 +1,55 @@
-// Where a key belongs on the pages.
-ghost use Rattle.std.specs.Prelude.{◌≡◌, ◌<◌, ◌≤◌, map, length, take};
-ghost use Rattle.register.specs.Images.{items_of, leaf_of};
-ghost use Rattle.register.specs.Registers.{IsRegister};
-ghost use Rattle.register.specs.Seats.{Seated};
+// Where a key belongs on the pages, and how a page of records is written.
+ghost use Rattle.std.specs.Prelude.{◌≡◌, ◌<◌, ◌≤◌, ◌||◌, length, nat_lt};
+ghost use Rattle.pages.specs.Bytes.{Holds, page_of};
+ghost use Rattle.pages.specs.Writes.{edit};
+ghost use Rattle.register.specs.Images.{most_items};
 
-use pages::page::read_page;
-use pages::paged::{Paged, image_at};
+use pages::page::write_page;
+use pages::paged::{Paged, write_at};
 use pages::records::{Entry, Item};
-use rows::row::place_in;
+use pages::stored::Stored;
+use rows::row::Row;
 
-pub(crate) const NO_ITEM: Item = Item {
-    separator: [0; 22],
-    page: 0,
-};
-
-pub(crate) const NO_ENTRY: Entry = Entry {
-    key: [0; 22],
-    start: 0,
-    length: 0,
-};
-
-// The entries of a leaf.
-pub(crate) fn read_leaf<P: Paged>(pages: &[P], page: usize, out: &mut [Entry]) -> usize
-    requires there { page < length pages.now }
-    requires room { length out.old ≡ 16 }
-    ensures count { result ≡ length (leaf_of (map P.image pages.now) page) }
-    ensures most { result ≤ 15 }
-    ensures held { take result out.new ≡ leaf_of (map P.image pages.now) page }
+// Writes a page of records under a letter.
+pub(crate) fn write_records<P: Paged, R: Stored>(
+    pages: &mut [P],
+    page: usize,
+    letter: u8,
+    records: &[R],
+)
+    requires there { page < length pages.old }
+    requires few { Holds R.wide (length records.now) }
+    ensures { pages.new ≡ edit (λ p. P.written p (page_of R.bytes letter records.now)) page pages.old }
 {
-    let image = image_at(pages, page);
-    read_page(&image, 15, out)
+    let mut image = [0; 512];
+    write_page(letter, records, &mut image);
+    write_at(pages, page, &image);
 }
 
-// The items of the root.
-pub(crate) fn read_root<P: Paged>(pages: &[P], out: &mut [Item]) -> usize
-    requires there { 0 < length pages.now }
-    requires room { length out.old ≡ 20 }
-    ensures count { result ≡ length (items_of (map P.image pages.now)) }
-    ensures most { result ≤ 20 }
-    ensures held { take result out.new ≡ items_of (map P.image pages.now) }
-{
-    let image = image_at(pages, 0);
-    read_page(&image, 20, out)
-}
-
-// The seat of a key: how many items the root has, the place of the item that the key belongs to and its page, how many entries that leaf has, and how many of them are not above the key.
-#[derive(Clone, Copy)]
+// The seat of a key: the root's items, the place of the item that the key belongs to and its page, the entries of that leaf, and how many of them are not above the key.
+#[derive(Drop)]
 pub(crate) struct Seat {
-    pub(crate) count: usize,
+    pub(crate) items: Row<Item, 20>,
     pub(crate) at: usize,
     pub(crate) page: usize,
-    pub(crate) held: usize,
+    pub(crate) leaf: Row<Entry, 16>,
     pub(crate) place: usize,
 }
 
-// Reads the root, and the leaf that a key belongs to: that of the last item whose separator is not above it.
-pub(crate) fn home<P: Paged>(
-    pages: &[P],
-    key: &[u8; 22],
-    items: &mut [Item],
-    records: &mut [Entry],
-) -> Seat
-    requires register { IsRegister (length pages.now) (map P.image pages.now) }
-    requires root { length items.old ≡ 20 }
-    requires leaf { length records.old ≡ 16 }
-    ensures items { take result.count items.new ≡ items_of (map P.image pages.now) }
-    ensures entries { take result.held records.new ≡ leaf_of (map P.image pages.now) result.page }
-    ensures seated { Seated (length pages.now) (map P.image pages.now) key.now result }
+// The most items that the root may have in a register of so many pages.
+pub(crate) fn most_items(pages: usize) -> usize
+    requires { 1 ≤ pages }
+    ensures { result ≡ most_items pages }
 {
-    let count = read_root(pages, items);
-    let at = place_in(items, count, key) - 1;
-    let page = items[at].page as usize;
-    let held = read_leaf(pages, page, records);
-    let place = place_in(records, held, key);
-    Seat {
-        count,
-        at,
-        page,
-        held,
-        place,
+    (pages - 1).min(20)
+}
+
+impl Seat {
+    // Whether a register of so many pages takes a new entry at this seat.
+    pub(crate) fn has_room(&self, pages: usize) -> bool
+        requires { 1 ≤ pages }
+        ensures { result ≡ (nat_lt (length self.now.leaf) 15 || nat_lt (length self.now.items) (most_items pages)) }
+    {
+        self.leaf.len() < 15 || self.items.len() < most_items(pages)
     }
 }

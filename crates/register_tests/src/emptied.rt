@@ -1,39 +1,39 @@
 // What stays when the last entry is taken out.
-ghost use Rattle.std.specs.Prelude.{◌≡◌, ◌≤◌, map, length};
-ghost use Rattle.register.specs.Registers.{IsRegister};
 
 use crate::changes::{ENOUGH, FIRST, falling, nth, puts, rising, takes};
 use crate::page_bytes::{empty_leaf, root_with};
 use names::bound::Bound;
 use names::name::Name;
-use register::changes::{has_room, take_out};
-use register::fresh::{format, fresh_page};
-use register::lookups::{above, find, highest_version, newest, page_of};
+use register::changes::Register;
+use register::fresh::fresh_page;
 use register::replay::replay;
 use register_check::check::check;
 use std::process::Abort;
 use std::test::Fail;
 
 // Checks that a register has no entry, and that its leaf is a page.
-fn is_empty(rt: &impl Abort, pages: &mut [[u8; 512]], page: usize) -> Result<(), Fail>
-    requires { IsRegister (length pages.old) (map (λ page. page) pages.old) }
-{
+fn is_empty(
+    rt: &impl Abort,
+    register: &mut Register<'_, [u8; 512]>,
+    page: usize,
+) -> Result<(), Fail> {
     let key = nth(1)?;
     let name = Name::new(b"R")?;
-    assert!(rt; has_room(pages, &key));
-    assert!(rt; find(pages, &key).is_none());
-    assert!(rt; above(pages, &Bound::lowest()).is_none());
-    assert!(rt; newest(pages, &name).is_none());
-    assert_eq!(rt; highest_version(pages, &name), 0);
-    assert_eq!(rt; page_of(pages, &key), page);
-    assert!(rt; take_out(pages, &key).is_none());
+    let look = register.look();
+    assert!(rt; look.has_room(&key));
+    assert!(rt; look.find(&key).is_none());
+    assert!(rt; look.above(&Bound::lowest()).is_none());
+    assert!(rt; look.newest(&name).is_none());
+    assert_eq!(rt; look.highest_version(&name), 0);
+    assert_eq!(rt; look.page_of(&key), page);
+    assert!(rt; register.take_out(&key).is_none());
     Ok(())
 }
 
 #[test]
 fn fresh(rt: HostRuntime) -> Result<(), Fail> {
     let mut pages = [[255; 512]; 21];
-    format(&mut pages);
+    Register::format(&mut pages);
     assert!(rt; pages[0] == root_with(1));
     assert!(rt; pages[1] == empty_leaf());
     for page in 2..21 {
@@ -41,7 +41,7 @@ fn fresh(rt: HostRuntime) -> Result<(), Fail> {
         assert!(rt; fresh_page(page) == [0; 512], "{}", page);
     }
     assert_eq!(rt; check(&pages, FIRST, ENOUGH), None);
-    is_empty(&rt, &mut pages, 1)
+    is_empty(&rt, &mut Register::over(&mut pages), 1)
 }
 
 // Checks that 167 rising entries on 20 leaves, taken out in an order, leave the empty leaf of a page, and every other one out of use.
@@ -56,7 +56,7 @@ fn leaves(rt: &(impl Abort + AllocGlobal), order: &[u16], page: u8) -> Result<()
         assert!(rt; pages[i] == empty_leaf(), "{}", i);
     }
     assert_eq!(rt; check(&pages, FIRST, ENOUGH), None);
-    is_empty(rt, &mut pages, usize::from(page))
+    is_empty(rt, &mut Register::over(&mut pages), usize::from(page))
 }
 
 // The leaves of rising keys have the pages 1, 2 and so on up to 20. The last leaf that is emptied stays.

@@ -1,11 +1,10 @@
 // How many entries fit before 5.
-ghost use Rattle.std.specs.Prelude.{◌≤◌, map, length};
-ghost use Rattle.register.specs.Registers.{IsRegister};
+ghost use Rattle.std.specs.Prelude.{◌≤◌, length};
 
 use crate::changes::{ENOUGH, FIRST, falling, nth, puts, rising};
 use refusal::Refusal;
-use register::changes::{has_room, put_in};
-use register::lookups::find;
+use register::changes::Register;
+use register::lookups::Lookup;
 use register::replay::replay;
 use register_check::check::check;
 use std::alloc::{AllocError, Global};
@@ -23,16 +22,18 @@ fn inward(alloc: Global) -> Result<Vec<u16>, AllocError> {
 }
 
 // Checks that the n-th entry is refused with 5, which leaves every page as it was.
-fn refuses(rt: &(impl Abort + AllocGlobal), pages: &mut [[u8; 512]], n: u16) -> Result<(), Fail>
-    requires { IsRegister (length pages.old) (map (λ page. page) pages.old) }
-{
+fn refuses(
+    rt: &(impl Abort + AllocGlobal),
+    register: &mut Register<'_, [u8; 512]>,
+    n: u16,
+) -> Result<(), Fail> {
     let key = nth(n)?;
-    let before = pages.to_vec(rt.alloc())?;
-    assert!(rt; !has_room(pages, &key), "{}", n);
-    assert!(rt; find(pages, &key).is_none(), "{}", n);
-    let answer = put_in(pages, &key, 60, 40);
+    let before = register.look().pages.to_vec(rt.alloc())?;
+    assert!(rt; !register.look().has_room(&key), "{}", n);
+    assert!(rt; register.look().find(&key).is_none(), "{}", n);
+    let answer = register.put_in(&key, 60, 40);
     assert!(rt; answer == Err(Refusal::RegisterFull), "{}", n);
-    assert!(rt; *pages == *before.as_slice(), "{}", n);
+    assert!(rt; *register.look().pages == *before.as_slice(), "{}", n);
     Ok(())
 }
 
@@ -50,11 +51,11 @@ fn fit(
     let mut changes = Vec::new(rt.alloc());
     puts(&mut changes, &order[0..many - 1])?;
     assert_eq!(rt; replay(pages, changes.as_slice()), many - 1);
-    assert!(rt; has_room(pages, &nth(order[many - 1])?));
+    assert!(rt; Lookup::over(pages).has_room(&nth(order[many - 1])?));
     puts(&mut changes, &order[many - 1..])?;
     assert_eq!(rt; replay(pages, changes.as_slice()), many);
     assert_eq!(rt; check(pages, FIRST, ENOUGH), None);
-    refuses(rt, pages, order[many])
+    refuses(rt, &mut Register::over(pages), order[many])
 }
 
 // A leaf of 15 entries and a new one become two leaves of 8. Where each key goes to the leaf that was split last, the others stay at 8, and that one takes 15.

@@ -1,10 +1,9 @@
 // Which pages the leaves have, and which pages a change writes.
-ghost use Rattle.std.specs.Prelude.{◌≡◌, ◌≤◌, map, length};
-ghost use Rattle.register.specs.Registers.{IsRegister};
+ghost use Rattle.std.specs.Prelude.{◌≤◌, length};
 
 use crate::changes::{ENOUGH, FIRST, falling, nth, put, puts, rising, take, takes};
 use crate::page_bytes::{page_with, put_bytes, written};
-use register::lookups::page_of;
+use register::lookups::Lookup;
 use register::replay::{Change, replay};
 use register_check::check::check;
 use std::alloc::Global;
@@ -15,12 +14,10 @@ use std::test::Fail;
 type Row = (u16, usize);
 
 // Checks to which pages keys belong.
-fn belong(rt: &impl Abort, pages: &[[u8; 512]], rows: &[Row]) -> Result<(), Fail>
-    requires { IsRegister (length pages.now) (map (λ page. page) pages.now) }
-{
-    assert_eq!(rt; check(pages, FIRST, ENOUGH), None);
+fn belong(rt: &impl Abort, register: &Lookup<'_, [u8; 512]>, rows: &[Row]) -> Result<(), Fail> {
+    assert_eq!(rt; check(register.pages, FIRST, ENOUGH), None);
     for (n, page) in rows {
-        assert_eq!(rt; page_of(pages, &nth(*n)?), *page, "{}", n);
+        assert_eq!(rt; register.page_of(&nth(*n)?), *page, "{}", n);
     }
     Ok(())
 }
@@ -55,11 +52,11 @@ fn by_order(rt: HostRuntime) -> Result<(), Fail> {
     let mut changes = Vec::new(rt.alloc());
     puts(&mut changes, rising(rt.alloc(), 1, 167)?.as_slice())?;
     replay(&mut pages, changes.as_slice());
-    belong(&rt, &pages, &OF_RISING)?;
+    belong(&rt, &Lookup::over(&pages), &OF_RISING)?;
     changes.clear();
     puts(&mut changes, falling(rt.alloc(), 200, 34)?.as_slice())?;
     replay(&mut pages, changes.as_slice());
-    belong(&rt, &pages, &OF_FALLING)
+    belong(&rt, &Lookup::over(&pages), &OF_FALLING)
 }
 
 // 24 entries on the pages 1, 2 and 3, eight on each; those of page 2 are taken out.
@@ -76,14 +73,26 @@ fn of_the_lowest_page(rt: HostRuntime) -> Result<(), Fail> {
     let mut changes = Vec::new(rt.alloc());
     without_page_2(&mut changes)?;
     replay(&mut pages, changes.as_slice());
-    belong(&rt, &pages, &[(1, 1), (9, 1), (16, 1), (17, 3), (24, 3)])?;
+    belong(
+        &rt,
+        &Lookup::over(&pages),
+        &[(1, 1), (9, 1), (16, 1), (17, 3), (24, 3)],
+    )?;
     puts(&mut changes, rising(rt.alloc(), 25, 32)?.as_slice())?;
     replay(&mut pages, changes.as_slice());
-    belong(&rt, &pages, &[(16, 1), (17, 3), (24, 3), (25, 2), (32, 2)])?;
+    belong(
+        &rt,
+        &Lookup::over(&pages),
+        &[(16, 1), (17, 3), (24, 3), (25, 2), (32, 2)],
+    )?;
     takes(&mut changes, falling(rt.alloc(), 8, 1)?.as_slice())?;
     puts(&mut changes, rising(rt.alloc(), 33, 40)?.as_slice())?;
     replay(&mut pages, changes.as_slice());
-    belong(&rt, &pages, &[(1, 3), (24, 3), (25, 2), (32, 2), (33, 1)])?;
+    belong(
+        &rt,
+        &Lookup::over(&pages),
+        &[(1, 3), (24, 3), (25, 2), (32, 2), (33, 1)],
+    )?;
     let mut root = page_with(b"NR\x03");
     put_bytes(&rt, &mut root, 54, b"\0\x03R");
     put_bytes(&rt, &mut root, 77, b"\x19\0\x02R");

@@ -1,14 +1,12 @@
 // Names that begin alike, in the order of their bytes, and what the register tells of each.
-ghost use Rattle.std.specs.Prelude.{◌≡◌, ◌≤◌, map, length};
-ghost use Rattle.register.specs.Registers.{IsRegister};
 
 use crate::changes::{key, take};
 use names::bound::Bound;
 use names::key::Key;
 use names::name::Name;
 use pages::records::Entry;
-use register::changes::take_out;
-use register::lookups::{above, find, highest_version, newest, page_of};
+use register::changes::Register;
+use register::lookups::Lookup;
 use register::replay::{Change, replay};
 use std::alloc::Global;
 use std::process::Abort;
@@ -66,17 +64,15 @@ fn place_of(entry: Option<Entry>) -> Option<u32> {
 }
 
 // What a lookup of each key, and of what is above it, tells.
-fn keys_tell(rt: &impl Abort, pages: &[[u8; 512]]) -> Result<(), Fail>
-    requires { IsRegister (length pages.now) (map (λ page. page) pages.now) }
-{
-    assert_eq!(rt; place_of(above(pages, &Bound::lowest())), Some(0));
+fn keys_tell(rt: &impl Abort, register: &Lookup<'_, [u8; 512]>) -> Result<(), Fail> {
+    assert_eq!(rt; place_of(register.above(&Bound::lowest())), Some(0));
     for place in 0..20u32 {
         let (text, version) = IN_TURN[place as usize];
         let key = key(text, version)?;
         let bound = Bound { bytes: key.bytes };
         let next = if place < 19 { Some(place + 1) } else { None };
-        assert_eq!(rt; place_of(find(pages, &key)), Some(place));
-        assert_eq!(rt; place_of(above(pages, &bound)), next);
+        assert_eq!(rt; place_of(register.find(&key)), Some(place));
+        assert_eq!(rt; place_of(register.above(&bound)), next);
     }
     Ok(())
 }
@@ -106,19 +102,17 @@ const ABOVE: [(Row, Option<u32>); 10] = [
 ];
 
 // What there is at missing keys, and above bounds.
-fn bounds_tell(rt: &impl Abort, pages: &[[u8; 512]]) -> Result<(), Fail>
-    requires { IsRegister (length pages.now) (map (λ page. page) pages.now) }
-{
+fn bounds_tell(rt: &impl Abort, register: &Lookup<'_, [u8; 512]>) -> Result<(), Fail> {
     for (text, version) in &MISSING {
         assert!(rt;
-            find(pages, &key(*text, *version)?).is_none(),
+            register.find(&key(*text, *version)?).is_none(),
             "{}",
             version
         );
     }
     for ((text, version), place) in &ABOVE {
         let bound = Bound::new(*text, *version)?;
-        assert_eq!(rt; place_of(above(pages, &bound)), *place, "{}", version);
+        assert_eq!(rt; place_of(register.above(&bound)), *place, "{}", version);
     }
     Ok(())
 }
@@ -139,13 +133,11 @@ const NEWEST: [(&'static [u8], Option<u32>, u16); 12] = [
     (b"ZZ", None, 0),
 ];
 
-fn names_tell(rt: &impl Abort, pages: &[[u8; 512]]) -> Result<(), Fail>
-    requires { IsRegister (length pages.now) (map (λ page. page) pages.now) }
-{
+fn names_tell(rt: &impl Abort, register: &Lookup<'_, [u8; 512]>) -> Result<(), Fail> {
     for (text, place, version) in &NEWEST {
         let name = Name::new(*text)?;
-        assert_eq!(rt; place_of(newest(pages, &name)), *place, "{}", version);
-        assert_eq!(rt; highest_version(pages, &name), *version);
+        assert_eq!(rt; place_of(register.newest(&name)), *place, "{}", version);
+        assert_eq!(rt; register.highest_version(&name), *version);
     }
     Ok(())
 }
@@ -155,9 +147,10 @@ fn told(rt: HostRuntime) -> Result<(), Fail> {
     let mut pages = [[0; 512]; 3];
     let changes = changes(rt.alloc())?;
     assert_eq!(rt; replay(&mut pages, changes.as_slice()), 20);
-    keys_tell(&rt, &pages)?;
-    bounds_tell(&rt, &pages)?;
-    names_tell(&rt, &pages)
+    let register = Lookup::over(&pages);
+    keys_tell(&rt, &register)?;
+    bounds_tell(&rt, &register)?;
+    names_tell(&rt, &register)
 }
 
 // R1 in the versions 1 to 9 and then R2 in the versions 1 to 7, with the lengths 1 to 16: the second leaf begins with version 9 of R1.
@@ -185,25 +178,28 @@ fn newest_on_the_leaf_before(rt: HostRuntime) -> Result<(), Fail> {
     let mut changes = nine_and_seven(rt.alloc())?;
     let ninth = key(b"R1", 9)?;
     assert_eq!(rt; replay(&mut pages, changes.as_slice()), 16);
-    let taken = take_out(&mut pages, &ninth).ok_or("version 9 is missing")?;
+    let mut register = Register::over(&mut pages);
+    let taken = register.take_out(&ninth).ok_or("version 9 is missing")?;
     assert_eq!(rt; (taken.start, taken.length), (1000, 9));
     let name = Name::new(b"R1")?;
+    let look = register.look();
     assert_eq!(rt;
-        (page_of(&pages, &key(b"R1", 8)?), page_of(&pages, &ninth)),
+        (look.page_of(&key(b"R1", 8)?), look.page_of(&ninth)),
         (1, 2)
     );
-    assert_eq!(rt; place_of(newest(&pages, &name)), Some(8));
-    assert_eq!(rt; highest_version(&pages, &name), 8);
-    assert_eq!(rt; place_of(above(&pages, &Bound::at(&name, 8))), Some(10));
-    assert_eq!(rt; place_of(above(&pages, &Bound::at(&name, 9))), Some(10));
+    assert_eq!(rt; place_of(look.newest(&name)), Some(8));
+    assert_eq!(rt; look.highest_version(&name), 8);
+    assert_eq!(rt; place_of(look.above(&Bound::at(&name, 8))), Some(10));
+    assert_eq!(rt; place_of(look.above(&Bound::at(&name, 9))), Some(10));
     for version in 1..10 {
         changes.push(Change::Take {
             key: key(b"R1", version)?,
         })?;
     }
     assert_eq!(rt; replay(&mut pages, changes.as_slice()), 25);
-    assert!(rt; newest(&pages, &name).is_none());
-    assert_eq!(rt; highest_version(&pages, &name), 0);
-    assert_eq!(rt; place_of(above(&pages, &Bound::lowest())), Some(10));
+    let register = Lookup::over(&pages);
+    assert!(rt; register.newest(&name).is_none());
+    assert_eq!(rt; register.highest_version(&name), 0);
+    assert_eq!(rt; place_of(register.above(&Bound::lowest())), Some(10));
     Ok(())
 }

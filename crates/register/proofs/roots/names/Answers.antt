@@ -1,14 +1,8 @@
-use Rattle.std.proofs.Common.{sym, ◌∙◌, arith}
-use Rattle.std.proofs.lemmas.Bool.Decides.{nat_tests}
-use Rattle.register.proofs.RootPages.{has-turn, has_end}
-use Rattle.register.specs.Images.{no_item}
+use Rattle.std.proofs.Common.{eqb, refl, rules}
+use Rattle.std.proofs.lemmas.List.Recursion.{or_is}
+use Rattle.tree.specs.Tree.{has}
+use Rattle.register.specs.Images.{pages_of, no_item}
 use Rattle.register.proofs.roots.names.Goals as goal
 
-pub returns-then-item-page : goal.returns-then-item-page
-returns-then-item-page c = let h = has-turn c.args.page c.args.items.now c.loop-item.item-index no_item c.loop-item-test.true in grind (arith, nat_tests)
-
-pub loop-item-preserved : goal.loop-item-preserved
-loop-item-preserved c = let h = has-turn c.args.page c.args.items.now c.loop-item.item-index no_item c.loop-item-test.true in grind (arith, nat_tests)
-
 pub returns : goal.returns
-returns c = sym (has_end c.args.page c.args.items.now c.loop-item.item-index (omega arith)) ∙ c.loop-item.invariant
+returns c = or_is (λ is. has c.args.page (pages_of is)) (λ i. eqb c.args.page i.page) refl (λ _ _. refl) c.args.items.now no_item c.any.result (λ t. search rules) (λ t. search rules)

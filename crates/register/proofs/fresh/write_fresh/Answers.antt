@@ -7,7 +7,7 @@ use Rattle.register.specs.Registers.{IsRegister}
 use Rattle.register.specs.Fresh.{fresh_writes}
 use Rattle.register.proofs.FreshImages.{fresh-step, fresh-end, fresh-imaged}
 use Rattle.register.proofs.Stand.{fresh-stands}
-use Rattle.register.proofs.fresh.format.Goals as goal
+use Rattle.register.proofs.fresh.write_fresh.Goals as goal
 
 pub loop-page-preserved : goal.loop-page-preserved
 loop-page-preserved g c =
