@@ -1,16 +1,14 @@
 -- The fact that images are a register has one proof at most, so a type may hold it.
 --     IsRegister-prop      two proofs of it are equal; the lemmas above it say the same of its parts
-use Rattle.std.specs.Prelude.{◌≡◌, ℕ, Bool, true, List, [], ◌∷◌, length, Some, None, Option}
-use Rattle.std.specs.List.{AllByRecursion, AllByRecursion-prop}
+use Rattle.std.specs.Prelude.{ℕ, Bool, List, [], ◌∷◌, Some, None, Option}
+use Rattle.std.specs.List.{AllByRecursion-prop}
 use Rattle.std.specs.Coded.{×_prop, Unit-prop}
-use Rattle.names.specs.Names.{is_byte_key}
 use Rattle.names.specs.Orders.{before}
 use Rattle.rows.specs.Lists.{Sorted}
-use Rattle.tree.specs.Tree.{Node, Under, Leaf, Fine, bound, Apart, has, Shape}
-use Rattle.pages.specs.Records.{ItemFit, EntryFit}
+use Rattle.tree.specs.Tree.{Node, Under, Leaf, Fine, bound, Apart, Shape}
 use Rattle.pages.specs.declared.records.Item.{Item}
 use Rattle.pages.specs.declared.records.Entry.{Entry}
-use Rattle.register.specs.Images.{zero_key, key_of, page_at, items_of, tree_of, entries_of, leaf_page, root_page}
+use Rattle.register.specs.Images.{zero_key, key_of}
 use Rattle.register.specs.Registers.{Separators, IsRegister}
 use mathlib.Core.Bool.{Bool-set}
 use Rattle.std.proofs.Props.{props}

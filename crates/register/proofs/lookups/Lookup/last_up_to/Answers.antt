@@ -1,5 +1,4 @@
-use Rattle.std.proofs.Common.{◌-◌, length, get_or, sym, ap, ◌∙◌, Some, arith}
-use Rattle.register.specs.Images.{no_entry}
+use Rattle.std.proofs.Common.{◌-◌, length, sym, ap, arith}
 use Rattle.register.proofs.SeatLookUps.{last-at, last-past, last-in, other-to, other-filled}
 use Rattle.register.proofs.lookups.Lookup.last_up_to.Goals as goal
 

@@ -1,4 +1,4 @@
-use Rattle.std.proofs.Common.{◌≡◌, ◌++◌, ℕ, List, cond, map, length, Some, None, Option, sym, ap, ◌∙◌}
+use Rattle.std.proofs.Common.{◌≡◌, ◌++◌, ℕ, List, cond, Some, None, Option, sym, ap, ◌∙◌}
 use Rattle.names.specs.Names.{two_bytes}
 use Rattle.names.specs.Orders.{before}
 use Rattle.rows.specs.Lists.{last_up_to}
