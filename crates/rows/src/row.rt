@@ -95,29 +95,20 @@ impl<R: Keyed, const N: usize> Row<R, N> {
         ensures bound { result ≤ length self.now }
         ensures value { result ≡ up_to R.before wanted.now (map R.key self.now) }
     {
-        place_among(self.as_slice(), wanted)
+        place_in(&self.records, self.count, wanted)
     }
 }
 
-// How many of these records, from the first on, have a key that is not above `wanted`.
-fn place_among<R: Keyed>(records: &[R], wanted: &[u8; 22]) -> usize
-    ensures bound { result ≤ length records.now }
-    ensures value { result ≡ up_to R.before wanted.now (map R.key records.now) }
+/// How many of the first `count` records have a key that is not above `wanted`, from the first on.
+pub fn place_in<R: Keyed>(records: &[R], count: usize, wanted: &[u8; 22]) -> usize
+    requires { count ≤ length records.now }
+    ensures bound { result ≤ count }
+    ensures value { result ≡ up_to R.before wanted.now (map R.key (take count records.now)) }
 {
-    records
+    records[..count]
         .iter()
         .position(|r| R::comes_before(wanted, &r.key()))
-        .unwrap_or(records.len())
-}
-
-/// How many of the first `count` records have a key that is not above `wanted`, from the first on.
-pub fn place_in<R: Keyed>(records: &mut [R], count: usize, wanted: &[u8; 22]) -> usize
-    requires { count ≤ length records.old }
-    ensures bound { result ≤ count }
-    ensures value { result ≡ up_to R.before wanted.now (map R.key (take count records.old)) }
-    ensures same { records.new ≡ records.old }
-{
-    place_among(&records[..count], wanted)
+        .unwrap_or(count)
 }
 
 /// Puts a record in at a place among the first `count`; those from there on move up by one.
