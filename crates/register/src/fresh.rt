@@ -6,7 +6,7 @@ ghost use Rattle.register.specs.Images.{entries_of};
 ghost use Rattle.register.specs.Registers.{IsRegister};
 
 use pages::page::write_page;
-use pages::paged::{Paged, write_at};
+use pages::paged::Paged;
 use pages::records::{Entry, Item};
 
 /// The image of a page of a fresh volume: page 0 is the root with one item, page 1 an empty leaf, every other one zeros.
@@ -36,7 +36,7 @@ pub(crate) fn write_fresh<P: Paged>(pages: &mut [P])
     ensures register { IsRegister (length pages.old) (map P.image pages.new) }
     ensures empty { entries_of (map P.image pages.new) ≡ [] }
 {
-    for page in 0..pages.len() {
-        write_at(pages, page, &fresh_page(page));
+    for (at, page) in pages.iter_mut().enumerate() {
+        page.write(&fresh_page(at));
     }
 }

@@ -1,28 +1,30 @@
-use Rattle.std.proofs.Common.{◌+◌, ◌-◌, map, length, sym, ap, ◌∙◌, subst, arith}
+use Rattle.std.proofs.Common.{◌+◌, ◌-◌, map, length, set, sym, ap, ◌∙◌, subst, arith}
 use Rattle.std.proofs.lemmas.List.{length-map}
-use Rattle.pages.specs.Writes.{edit, wrote}
-use Rattle.pages.proofs.Edits.{map-wrote}
+use Rattle.pages.specs.Writes.{wrote}
+use Rattle.pages.proofs.Edits.{edit-set, map-wrote}
 use Rattle.register.specs.Images.{entries_of}
 use Rattle.register.specs.Registers.{IsRegister}
-use Rattle.register.specs.Fresh.{fresh_writes}
+use Rattle.register.specs.Fresh.{fresh_page, fresh_writes}
 use Rattle.register.proofs.FreshImages.{fresh-step, fresh-end, fresh-imaged}
 use Rattle.register.proofs.Stand.{fresh-stands}
 use Rattle.register.proofs.fresh.write_fresh.Goals as goal
 
-pub loop-page-preserved : goal.loop-page-preserved
-loop-page-preserved g c =
+pub loop-at-preserved : goal.loop-at-preserved
+loop-at-preserved g c =
     let w = g.P.Paged.written in
-    let p = c.loop-page.page in
+    let p = c.loop-at.at in
     let n = length c.args.pages.now in
-    let made = c.write_at.ensures.pages ∙ ap (λ image. edit (λ x. w x image) p c.loop-page.pages) c.fresh_page.ensures in
-    ap (wrote w (fresh_writes (p + 1) (n - (p + 1)))) made ∙ sym (fresh-step w p n c.loop-page.pages c.loop-page-test.true) ∙ c.loop-page.invariant
+    let x = c.index-pages-at.result in
+    let image = c.write.ensures ∙ ap (λ y. w y c.fresh_page.result) (sym c.index-pages-at.is) ∙ ap (w x) c.fresh_page.ensures in
+    let made = ap (set c.loop-at.pages p) image ∙ edit-set (λ y. w y (fresh_page p)) p c.loop-at.pages x (omega arith) c.index-pages-at.is in
+    ap (wrote w (fresh_writes (p + 1) (n - (p + 1)))) made ∙ sym (fresh-step w p n c.loop-at.pages c.loop-at-test.true) ∙ c.loop-at.invariant
 
 pub returns : goal.returns
 returns g c =
     let w = g.P.Paged.written in
     let old = c.args.pages.now in
     let n = length old in
-    let done = sym (fresh-end w c.loop-page.page n c.loop-page.pages (omega arith)) ∙ c.loop-page.invariant in
+    let done = sym (fresh-end w c.loop-at.at n c.loop-at.pages (omega arith)) ∙ c.loop-at.invariant in
     let images = ap (map g.P.Paged.image) done ∙ map-wrote g.P.Paged.image w g.P.Paged.holds (fresh_writes 0 n) old ∙ fresh-imaged n (map g.P.Paged.image old) (length-map old g.P.Paged.image) in
     let fresh = fresh-stands n c.requires.least c.requires.most in
     record { writes = done; images = images; register = subst (IsRegister n) (sym images) fresh.0; empty = ap entries_of images ∙ fresh.1 }
