@@ -50,7 +50,7 @@ pub(crate) fn split<P: Paged>(pages: &mut [P], mut seat: Seat)
 // Writes the root without an item, its first separator zeros.
 pub(crate) fn drop_item<P: Paged>(pages: &mut [P], mut seat: Seat)
     requires place { (seat.at < length seat.items) × (1 < length seat.items) × (length seat.items ≤ 20) }
-    requires lent { 0 < length pages.old }
+    requires there { 0 < length pages.old }
     ensures { pages.new ≡ edit (λ p. P.written p (root_page (zero_first (without seat.items seat.at)))) 0 pages.old }
 {
     seat.items.take_out(seat.at);

@@ -18,7 +18,7 @@ pub(crate) fn write_records<P: Paged, R: Stored>(
     records: &[R],
 )
     requires there { page < length pages.old }
-    requires few { Holds R.wide (length records.now) }
+    requires few { Holds R.WIDE (length records.now) }
     ensures { pages.new ≡ edit (λ p. P.written p (page_of R.bytes letter records.now)) page pages.old }
 {
     let mut image = [0; 512];
