@@ -37,18 +37,16 @@ pub fn take(n: u16) -> Result<Change, Fail> {
     Ok(Change::Take { key: nth(n)? })
 }
 
-/// Entries are put in, in this order of their numbers.
-pub fn puts(changes: &mut Vec<Change>, order: &[u16]) -> Result<(), Fail> {
+/// A change for each of these numbers, in this order.
+pub fn add<F: Fn(u16) -> Result<Change, Fail>>(
+    changes: &mut Vec<Change>,
+    order: &[u16],
+    change: F,
+) -> Result<(), Fail>
+    requires { F.IsAlwaysCallable change }
+{
     for n in order {
-        changes.push(put(*n)?)?;
-    }
-    Ok(())
-}
-
-/// Entries are taken out, in this order of their numbers.
-pub fn takes(changes: &mut Vec<Change>, order: &[u16]) -> Result<(), Fail> {
-    for n in order {
-        changes.push(take(*n)?)?;
+        changes.push(change(*n)?)?;
     }
     Ok(())
 }

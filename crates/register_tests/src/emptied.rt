@@ -1,6 +1,6 @@
 // What stays when the last entry is taken out.
 
-use crate::changes::{ENOUGH, FIRST, falling, nth, puts, rising, takes};
+use crate::changes::{ENOUGH, FIRST, add, falling, nth, put, rising, take};
 use crate::page_bytes::{empty_leaf, root_with};
 use names::bound::Bound;
 use names::name::Name;
@@ -36,8 +36,8 @@ fn fresh(rt: HostRuntime) -> Result<(), Fail> {
     Register::format(&mut pages);
     assert!(rt; pages[0] == root_with(1));
     assert!(rt; pages[1] == empty_leaf());
-    for page in 2..21 {
-        assert!(rt; pages[page] == [0; 512], "{}", page);
+    for (page, image) in pages.iter().enumerate().skip(2) {
+        assert!(rt; *image == [0; 512], "{}", page);
         assert!(rt; fresh_page(page) == [0; 512], "{}", page);
     }
     assert_eq!(rt; check(&pages, FIRST, ENOUGH), None);
@@ -47,13 +47,13 @@ fn fresh(rt: HostRuntime) -> Result<(), Fail> {
 // Checks that 167 rising entries on 20 leaves, taken out in an order, leave the empty leaf of a page, and every other one out of use.
 fn leaves(rt: &(impl Abort + AllocGlobal), order: &[u16], page: u8) -> Result<(), Fail> {
     let mut changes = Vec::new(rt.alloc());
-    puts(&mut changes, rising(rt.alloc(), 1, 167)?.as_slice())?;
-    takes(&mut changes, order)?;
+    add(&mut changes, rising(rt.alloc(), 1, 167)?.as_slice(), put)?;
+    add(&mut changes, order, take)?;
     let mut pages = [[0; 512]; 21];
     assert_eq!(rt; replay(&mut pages, changes.as_slice()), 334);
     assert!(rt; pages[0] == root_with(page));
-    for i in 1..21 {
-        assert!(rt; pages[i] == empty_leaf(), "{}", i);
+    for (page, image) in pages.iter().enumerate().skip(1) {
+        assert!(rt; *image == empty_leaf(), "{}", page);
     }
     assert_eq!(rt; check(&pages, FIRST, ENOUGH), None);
     is_empty(rt, &mut Register::over(&mut pages), usize::from(page))

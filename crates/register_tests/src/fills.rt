@@ -1,7 +1,7 @@
 // How many entries fit before 5.
 ghost use Rattle.std.specs.Prelude.{◌≤◌, length};
 
-use crate::changes::{ENOUGH, FIRST, falling, nth, puts, rising};
+use crate::changes::{ENOUGH, FIRST, add, falling, nth, put, rising};
 use refusal::Refusal;
 use register::changes::Register;
 use register::lookups::Lookup;
@@ -49,10 +49,10 @@ fn fit(
 {
     assert!(rt; many >= 1 && many < order.len());
     let mut changes = Vec::new(rt.alloc());
-    puts(&mut changes, &order[0..many - 1])?;
+    add(&mut changes, &order[0..many - 1], put)?;
     assert_eq!(rt; replay(pages, changes.as_slice()), many - 1);
     assert!(rt; Lookup::over(pages).has_room(&nth(order[many - 1])?));
-    puts(&mut changes, &order[many - 1..])?;
+    add(&mut changes, &order[many - 1..], put)?;
     assert_eq!(rt; replay(pages, changes.as_slice()), many);
     assert_eq!(rt; check(pages, FIRST, ENOUGH), None);
     refuses(rt, &mut Register::over(pages), order[many])

@@ -1,7 +1,7 @@
 // Which pages the leaves have, and which pages a change writes.
 ghost use Rattle.std.specs.Prelude.{◌≤◌, length};
 
-use crate::changes::{ENOUGH, FIRST, falling, nth, put, puts, rising, take, takes};
+use crate::changes::{ENOUGH, FIRST, add, falling, nth, put, rising, take};
 use crate::page_bytes::{page_with, put_bytes, written};
 use register::lookups::Lookup;
 use register::replay::{Change, replay};
@@ -50,11 +50,11 @@ const OF_FALLING: [Row; 8] = [
 fn by_order(rt: HostRuntime) -> Result<(), Fail> {
     let mut pages = [[0; 512]; 21];
     let mut changes = Vec::new(rt.alloc());
-    puts(&mut changes, rising(rt.alloc(), 1, 167)?.as_slice())?;
+    add(&mut changes, rising(rt.alloc(), 1, 167)?.as_slice(), put)?;
     replay(&mut pages, changes.as_slice());
     belong(&rt, &Lookup::over(&pages), &OF_RISING)?;
     changes.clear();
-    puts(&mut changes, falling(rt.alloc(), 200, 34)?.as_slice())?;
+    add(&mut changes, falling(rt.alloc(), 200, 34)?.as_slice(), put)?;
     replay(&mut pages, changes.as_slice());
     belong(&rt, &Lookup::over(&pages), &OF_FALLING)
 }
@@ -62,8 +62,8 @@ fn by_order(rt: HostRuntime) -> Result<(), Fail> {
 // 24 entries on the pages 1, 2 and 3, eight on each; those of page 2 are taken out.
 fn without_page_2(changes: &mut Vec<Change>) -> Result<(), Fail> {
     let alloc = *changes.allocator();
-    puts(changes, rising(alloc, 1, 24)?.as_slice())?;
-    takes(changes, rising(alloc, 9, 16)?.as_slice())
+    add(changes, rising(alloc, 1, 24)?.as_slice(), put)?;
+    add(changes, rising(alloc, 9, 16)?.as_slice(), take)
 }
 
 // The next split takes page 2. Then page 1 is emptied too, and the split after it takes that one.
@@ -78,15 +78,15 @@ fn of_the_lowest_page(rt: HostRuntime) -> Result<(), Fail> {
         &Lookup::over(&pages),
         &[(1, 1), (9, 1), (16, 1), (17, 3), (24, 3)],
     )?;
-    puts(&mut changes, rising(rt.alloc(), 25, 32)?.as_slice())?;
+    add(&mut changes, rising(rt.alloc(), 25, 32)?.as_slice(), put)?;
     replay(&mut pages, changes.as_slice());
     belong(
         &rt,
         &Lookup::over(&pages),
         &[(16, 1), (17, 3), (24, 3), (25, 2), (32, 2)],
     )?;
-    takes(&mut changes, falling(rt.alloc(), 8, 1)?.as_slice())?;
-    puts(&mut changes, rising(rt.alloc(), 33, 40)?.as_slice())?;
+    add(&mut changes, falling(rt.alloc(), 8, 1)?.as_slice(), take)?;
+    add(&mut changes, rising(rt.alloc(), 33, 40)?.as_slice(), put)?;
     replay(&mut pages, changes.as_slice());
     belong(
         &rt,

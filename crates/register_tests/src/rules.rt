@@ -1,7 +1,7 @@
 // Good registers with bytes changed by hand: the page that breaks a rule.
 ghost use Rattle.std.specs.Prelude.{◌≤◌, length};
 
-use crate::changes::{puts, rising};
+use crate::changes::{add, put, rising};
 use crate::page_bytes::put_bytes;
 use register::replay::replay;
 use register_check::check::check;
@@ -15,7 +15,7 @@ pub type Edit = (usize, usize, &'static [u8]);
 pub fn good(rt: &(impl Abort + AllocGlobal)) -> Result<[[u8; 512]; 4], Fail> {
     let mut pages = [[0; 512]; 4];
     let mut changes = Vec::new(rt.alloc());
-    puts(&mut changes, rising(rt.alloc(), 1, 16)?.as_slice())?;
+    add(&mut changes, rising(rt.alloc(), 1, 16)?.as_slice(), put)?;
     assert_eq!(rt; replay(&mut pages, changes.as_slice()), 16);
     Ok(pages)
 }

@@ -66,8 +66,7 @@ fn place_of(entry: Option<Entry>) -> Option<u32> {
 // What a lookup of each key, and of what is above it, tells.
 fn keys_tell(rt: &impl Abort, register: &Lookup<'_, [u8; 512]>) -> Result<(), Fail> {
     assert_eq!(rt; place_of(register.above(&Bound::lowest())), Some(0));
-    for place in 0..20u32 {
-        let (text, version) = IN_TURN[place as usize];
+    for (place, (text, version)) in (0..20u32).zip(IN_TURN) {
         let key = key(text, version)?;
         let bound = Bound { bytes: key.bytes };
         let next = if place < 19 { Some(place + 1) } else { None };
