@@ -1,14 +1,10 @@
 -- Counting the trials by what came back. A count stops at the largest number of 32 bits.
---     none_yet     no trial is counted
 --     added        one trial more
 --     all_good     nothing but the two sheets came back
 use Rattle.std.specs.Prelude.{ℕ, ◌+◌, min, Bool, ◌==◌}
 use Rattle.boxcheck.specs.declared.trials.Came.{Came}
 use Rattle.boxcheck.specs.declared.trials.Came.TheVariants.{Old, New, Other}
 use Rattle.boxcheck.specs.declared.tally.Tally.{Tally}
-
-abbrev pub none_yet : Tally
-none_yet = record { old = 0; new = 0; other = 0 }
 
 abbrev pub more : ℕ → ℕ
 more n = min (n + 1) 4294967295

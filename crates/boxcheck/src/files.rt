@@ -1,7 +1,7 @@
 // The register of the small volume: some files are put in, one is taken out again, and what is left is listed.
 use crate::lines::FileLine;
 use crate::listing::{IMAGES, PLACES};
-use anyhow::anyhow;
+use anyhow::{Context, bail, ensure};
 use geometry::geometry::Geometry;
 use names::bound::Bound;
 use names::key::Key;
@@ -53,32 +53,26 @@ fn list_files<P: Paged>(rt: &HostRuntime, register: &Lookup<'_, P>) -> anyhow::R
         let Some(entry) = register.above(&bound) else {
             return Ok(files);
         };
-        let Some(key) = Key::from_bytes(&entry.key) else {
-            return Err(anyhow!("a key of the register is bad"));
-        };
+        let key = Key::from_bytes(&entry.key).context("a key of the register is bad")?;
         let page = register.page_of(&key);
-        let line = FileLine { entry, page };
-        println!(rt; "{line}")?;
+        println!(rt; "{}", FileLine { entry, page })?;
         bound.bytes = entry.key;
     }
-    Err(anyhow!("the register has too many files"))
+    bail!("the register has too many files")
 }
 
 /// Fills the register of a small volume, lists its files and checks its rules.
 pub fn show_register(rt: &HostRuntime, geometry: &Geometry) -> anyhow::Result<()> {
-    let Some(changes) = changes() else {
-        return Err(anyhow!("a name of a file is bad"));
-    };
+    let changes = changes().context("a name of a file is bad")?;
     let mut pages = [[0; 512]; IMAGES];
-    if replay(&mut pages, &changes) < changes.len() {
-        return Err(anyhow!("the register is full"));
-    }
+    let done = replay(&mut pages, &changes);
+    ensure!(done == changes.len(), "the register is full");
     println!(rt; "REGISTER: five files put in, then ROUND-1.1 taken out")?;
     let files = list_files(rt, &Lookup::over(&pages))?;
     let free = PLACES.saturating_sub(files);
     println!(rt; "{files} files, {free} of {PLACES} places free")?;
     if let Some(page) = check(&pages, geometry.data_start(), geometry.sectors) {
-        return Err(anyhow!("page {page} of the register breaks a rule"));
+        bail!("page {page} of the register breaks a rule");
     }
     println!(rt; "the rules of the register are kept, and no two files meet")?;
     Ok(())

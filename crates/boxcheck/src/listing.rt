@@ -25,8 +25,8 @@ pub const IMAGES: usize = PAGES as usize;
 /// How many files there are places for on the leaves: 15 on each page but that of the root.
 pub const PLACES: u32 = 15 * (PAGES as u32 - 1);
 
-/// Writes two copies of the header and of the anchor.
-pub fn write_twins<D: Disk>(disk: &mut D) -> Result<(), Fault> {
+// Writes two copies of the header and of the anchor.
+fn write_twins<D: Disk>(disk: &mut D) -> Result<(), Fault> {
     let mut work = [0u8; 512];
     let header = Header {
         pages: PAGES,
@@ -45,8 +45,8 @@ pub fn write_twins<D: Disk>(disk: &mut D) -> Result<(), Fault> {
     disk.write(6, &work)
 }
 
-/// Writes the heads and the ends of group 2 with page 1, from `start` on.
-pub fn write_record<D: Disk>(disk: &mut D, start: u32) -> Result<(), Fault> {
+// Writes the heads and the ends of group 2 with page 1, from `start` on.
+fn write_record<D: Disk>(disk: &mut D, start: u32) -> Result<(), Fault> {
     let mut work = [0u8; 512];
     let mut pages = [0u8; 21];
     pages[0] = 1;
@@ -64,8 +64,8 @@ pub fn write_record<D: Disk>(disk: &mut D, start: u32) -> Result<(), Fault> {
     disk.write(start.saturating_add(6), &work)
 }
 
-/// Writes the leader of a file.
-pub fn write_leader<D: Disk>(
+// Writes the leader of a file.
+fn write_leader<D: Disk>(
     disk: &mut D,
     sector: u32,
     name: &[u8],
@@ -80,4 +80,11 @@ pub fn write_leader<D: Disk>(
     leader.encode(&mut work);
     disk.write(sector, &work)?;
     Ok(())
+}
+
+/// Writes the tagged sectors of the listing.
+pub fn write_all<D: Disk>(disk: &mut D) -> Result<(), Refusal> {
+    write_twins(disk)?;
+    write_record(disk, 8)?;
+    write_leader(disk, 60, b"R5", 40)
 }

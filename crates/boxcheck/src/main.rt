@@ -10,11 +10,10 @@ mod trials;
 
 use crate::lines::{Line, Places};
 use crate::tally::Tally;
-use crate::trials::{Came, MANNERS};
-use anyhow::anyhow;
+use crate::trials::{Came, Failure, MANNERS, Sheets};
+use anyhow::{Context, ensure};
 use cases::worked_cases;
 use disk::disks::Disk;
-use failing::manner::Manner;
 use geometry::geometry::Geometry;
 use image::Image;
 use layout::tagged::{Tagged, tag_of};
@@ -41,22 +40,14 @@ fn new_sheet(rt: &HostRuntime) -> anyhow::Result<String> {
 }
 
 // Carries out one trial and prints its line.
-fn show(
-    rt: &HostRuntime,
-    old: &[u8; 512],
-    new: &[u8; 512],
-    calls: u32,
-    manner: Manner,
-) -> anyhow::Result<Came> {
-    match trials::carry_out(rt.alloc(), old, new, calls, manner)? {
+fn show(rt: &HostRuntime, sheets: &Sheets, failure: Failure) -> anyhow::Result<Came> {
+    match sheets.carry_out(rt.alloc(), failure)? {
         Ok(trial) => {
             println!(rt; "{trial}")?;
             Ok(trial.came)
         }
         Err(refusal) => {
-            let number = refusal.number();
-            let words = refusal.words();
-            println!(rt; "refused: {number} {words}")?;
+            println!(rt; "refused: {refusal}")?;
             Ok(Came::Other)
         }
     }
@@ -81,18 +72,20 @@ fn head(rt: &HostRuntime, new: &str) -> anyhow::Result<()> {
 
 fn run(rt: &HostRuntime) -> anyhow::Result<bool> {
     let text = new_sheet(rt)?;
-    let Ok(old) = page_of(OLD) else {
-        return Ok(false);
-    };
-    let Ok(new) = page_of(text.as_str()) else {
-        println!(rt; "refused: 3 too long: a sheet has at most 512 bytes")?;
-        return Ok(false);
+    let old = page_of(OLD)?;
+    let new = match page_of(text.as_str()) {
+        Ok(new) => new,
+        Err(refusal) => {
+            println!(rt; "refused: {refusal}: a sheet has at most 512 bytes")?;
+            return Ok(false);
+        }
     };
     head(rt, text.as_str())?;
-    let mut tally = Tally::new();
+    let sheets = Sheets { old, new };
+    let mut tally = Tally::default();
     for calls in 0..2u32 {
         for manner in MANNERS {
-            tally.add(show(rt, &old, &new, calls, manner)?);
+            tally.add(show(rt, &sheets, Failure { calls, manner })?);
         }
     }
     println!(rt; "")?;
@@ -105,21 +98,17 @@ fn list<D: Disk>(rt: &HostRuntime, disk: &mut D) -> anyhow::Result<()> {
     println!(rt; "sector  carries{:<40}first bytes", "")?;
     for sector in 0..listing::SECTORS {
         let mut bytes = [0u8; 512];
-        if disk.read(sector, &mut bytes).is_err() {
-            return Err(anyhow!("the disk could not be read"));
-        }
+        disk.read(sector, &mut bytes)
+            .context("the disk could not be read")?;
         let tagged = tag_of(&bytes, listing::SECTORS, listing::PAGES);
-        if let Tagged::Other = tagged {
-            continue;
+        if tagged != Tagged::Other {
+            let line = Line {
+                sector,
+                tagged,
+                first: &bytes[..12],
+            };
+            println!(rt; "{line}")?;
         }
-        let mut first = [0u8; 12];
-        first.copy_from_slice(&bytes[0..12]);
-        let line = Line {
-            sector,
-            tagged,
-            first,
-        };
-        println!(rt; "{line}")?;
     }
     Ok(())
 }
@@ -128,15 +117,7 @@ fn list<D: Disk>(rt: &HostRuntime, disk: &mut D) -> anyhow::Result<()> {
 fn show_sectors(rt: &HostRuntime) -> anyhow::Result<()> {
     let mut bytes: Vec<u8> = vec![in rt.alloc(); 0; 61560]?;
     let mut disk = Image::new(bytes.as_mut_slice());
-    if listing::write_twins(&mut disk).is_err() {
-        return Err(anyhow!("the disk could not be written"));
-    }
-    if listing::write_record(&mut disk, 8).is_err() {
-        return Err(anyhow!("the disk could not be written"));
-    }
-    if listing::write_leader(&mut disk, 60, b"R5", 40).is_err() {
-        return Err(anyhow!("the disk could not be written"));
-    }
+    listing::write_all(&mut disk).context("the disk could not be written")?;
     list(rt, &mut disk)?;
     let cases = worked_cases();
     println!(rt; "{cases} worked cases of the format hold by proof")?;
@@ -145,15 +126,13 @@ fn show_sectors(rt: &HostRuntime) -> anyhow::Result<()> {
 
 // Shows where a small volume has what, its tagged sectors and its register.
 fn show_volume(rt: &HostRuntime) -> anyhow::Result<()> {
-    let Ok(geometry) = Geometry::new(
+    let geometry = Geometry::new(
         u32::from(listing::PAGES),
         u32::from(listing::THIRD),
         listing::SECTORS,
-    ) else {
-        return Err(anyhow!("the numbers of the volume are bad"));
-    };
-    let places = Places(geometry);
-    println!(rt; "{places}")?;
+    )
+    .context("the numbers of the volume are bad")?;
+    println!(rt; "{}", Places(geometry))?;
     show_sectors(rt)?;
     println!(rt; "")?;
     files::show_register(rt, &geometry)
@@ -163,9 +142,6 @@ fn main(rt: HostRuntime) -> anyhow::Result<()> {
     let passed = run(&rt)?;
     println!(rt; "")?;
     show_volume(&rt)?;
-    if passed {
-        Ok(())
-    } else {
-        Err(anyhow!("the box check did not pass"))
-    }
+    ensure!(passed, "the box check did not pass");
+    Ok(())
 }

@@ -1,10 +1,11 @@
 // How often each sheet came back.
 ghost use Rattle.std.specs.Prelude.{◌≡◌};
-ghost use Rattle.boxcheck.specs.Tallies.{added, none_yet, all_good};
+ghost use Rattle.boxcheck.specs.Tallies.{added, all_good};
 
 use crate::trials::Came;
 
-#[derive(Clone, Copy)]
+/// How many trials read back the old sheet, the new one and something else. It begins with none.
+#[derive(Clone, Copy, PartialEq, Eq, Debug, Default)]
 pub struct Tally {
     pub old: u32,
     pub new: u32,
@@ -12,16 +13,6 @@ pub struct Tally {
 }
 
 impl Tally {
-    pub fn new() -> Tally
-        ensures { result ≡ none_yet }
-    {
-        Tally {
-            old: 0,
-            new: 0,
-            other: 0,
-        }
-    }
-
     /// One trial more.
     pub fn add(&mut self, came: Came)
         ensures { self.exit.now ≡ added came self.entry.now }

@@ -22,21 +22,27 @@ pub const MANNERS: [Manner; 5] = [
 
 const SECTORS: usize = 16;
 
-const COPIES: Copies = Copies {
-    first: 2,
-    second: 4,
-};
+const FIRST: u32 = 2;
+
+const SECOND: u32 = 4;
 
 /// Which sheet was read back.
-#[derive(Clone, Copy)]
+#[derive(Clone, Copy, PartialEq, Eq, Debug)]
 pub enum Came {
     Old,
     New,
     Other,
 }
 
+/// When and how the power fails in a trial: after so many writes, in the next one.
+#[derive(Clone, Copy, PartialEq, Eq, Debug)]
+pub struct Failure {
+    pub calls: u32,
+    pub manner: Manner,
+}
+
 /// What came of a trial: where and how the power failed, which of the sectors 1 to 5 are readable, and what was read back from where.
-#[derive(Clone, Copy)]
+#[derive(Clone, Copy, PartialEq, Eq, Debug)]
 pub struct Trial {
     pub cut: Option<u32>,
     pub manner: Manner,
@@ -45,59 +51,66 @@ pub struct Trial {
     pub source: u32,
 }
 
-fn which(back: &[u8; 512], old: &[u8; 512], new: &[u8; 512]) -> Came
-    ensures { Tells back.now old.now new.now result }
-{
-    if *back == *old {
-        Came::Old
-    } else if *back == *new {
-        Came::New
-    } else {
-        Came::Other
-    }
+/// The sheet that a disk holds before a trial, and the one that is written in it.
+#[derive(Clone, Copy, PartialEq, Eq, Debug)]
+pub struct Sheets {
+    pub old: [u8; 512],
+    pub new: [u8; 512],
 }
 
-// The trial on any disk that can be spoiled: the old sheet on both copies, then the new one on the failing disk.
-fn on_disk<D: Spoilable>(
-    part: &mut D,
-    old: &[u8; 512],
-    new: &[u8; 512],
-    calls: u32,
-    manner: Manner,
-) -> Result<Trial, Refusal>
-    ensures law { OldOrNew result }
-    ensures tells { Carried old.now new.now manner result }
-{
-    let mut back = [0u8; 512];
-    if let Some(sector) = COPIES.renew(part, old, &mut back)? {
-        return Err(Refusal::PowerOff(sector));
+impl Sheets {
+    // Which of the two was read back.
+    fn which(&self, back: &[u8; 512]) -> Came
+        ensures { Tells back.now self.now.old self.now.new result }
+    {
+        if *back == self.old {
+            Came::Old
+        } else if *back == self.new {
+            Came::New
+        } else {
+            Came::Other
+        }
     }
-    let mut disk = Failing::new(part, calls, manner);
-    let cut = COPIES.renew(&mut disk, new, &mut back)?;
-    let came = which(&back, old, new);
-    let source = COPIES.fetch(&mut disk, &mut back)?;
-    let readable = survey(&mut disk, COPIES.first - 1)?;
-    Ok(Trial {
-        cut,
-        manner,
-        readable,
-        came,
-        source,
-    })
-}
 
-/// One trial on a fresh image of zeros. The power fails after `calls` writes, in the next one.
-pub fn carry_out(
-    heap: Global,
-    old: &[u8; 512],
-    new: &[u8; 512],
-    calls: u32,
-    manner: Manner,
-) -> Result<Result<Trial, Refusal>, AllocError>
-    ensures law { IfOk result OldOrNew }
-    ensures tells { IfOk result (Carried old.now new.now manner) }
-{
-    let mut bytes: Vec<u8> = vec![in heap; 0; SECTORS * 513]?;
-    let mut part = Window::new(Image::new(bytes.as_mut_slice()), 3, 10);
-    Ok(on_disk(&mut part, old, new, calls, manner))
+    // The trial on any disk that can be spoiled: the old sheet on both copies, then the new one on the failing disk.
+    fn on_disk<D: Spoilable>(&self, part: &mut D, failure: Failure) -> Result<Trial, Refusal>
+        ensures law { OldOrNew result }
+        ensures tells { Carried self.now.old self.now.new failure.manner result }
+    {
+        let copies = Copies {
+            first: FIRST,
+            second: SECOND,
+        };
+        let mut back = [0u8; 512];
+        if let Some(sector) = copies.renew(part, &self.old, &mut back)? {
+            return Err(Refusal::PowerOff(sector));
+        }
+        let Failure { calls, manner } = failure;
+        let mut disk = Failing::new(part, calls, manner);
+        let cut = copies.renew(&mut disk, &self.new, &mut back)?;
+        let came = self.which(&back);
+        let source = copies.fetch(&mut disk, &mut back)?;
+        let readable = survey(&mut disk, FIRST - 1)?;
+        Ok(Trial {
+            cut,
+            manner,
+            readable,
+            came,
+            source,
+        })
+    }
+
+    /// One trial on a fresh image of zeros.
+    pub fn carry_out(
+        &self,
+        heap: Global,
+        failure: Failure,
+    ) -> Result<Result<Trial, Refusal>, AllocError>
+        ensures law { IfOk result OldOrNew }
+        ensures tells { IfOk result (Carried self.now.old self.now.new failure.manner) }
+    {
+        let mut bytes: Vec<u8> = vec![in heap; 0; SECTORS * 513]?;
+        let mut part = Window::new(Image::new(bytes.as_mut_slice()), 3, 10);
+        Ok(self.on_disk(&mut part, failure))
+    }
 }

@@ -1,4 +1,5 @@
 // What a write may leave in whose course the power fails.
+use std::fmt;
 
 /// The manners that the cut rule allows, for a write of a sector.
 #[derive(Clone, Copy, PartialEq, Eq, Debug)]
@@ -13,4 +14,16 @@ pub enum Manner {
     OwnAndBelow,
     /// The sector and the one above it are unreadable.
     OwnAndAbove,
+}
+
+impl fmt::Display for Manner {
+    fn fmt<W: fmt::Write>(&self, f: &mut fmt::Formatter<W>) -> fmt::Result {
+        f.pad(match self {
+            Manner::AsBefore => "the sector as before",
+            Manner::NewBytes => "the sector with the new bytes",
+            Manner::Own => "the sector unreadable",
+            Manner::OwnAndBelow => "the sector and the one below it unreadable",
+            Manner::OwnAndAbove => "the sector and the one above it unreadable",
+        })
+    }
 }

@@ -1,6 +1,6 @@
 use Rattle.std.proofs.lemmas.Slice.Eq.{slice_eq-Decides}
 use Rattle.boxcheck.proofs.NeverOther.{apart}
-use Rattle.boxcheck.proofs.trials.which.Goals as goal
+use Rattle.boxcheck.proofs.trials.Sheets.which.Goals as goal
 use Rattle.std.proofs.lemmas.Bool.Decides.{Decides-eqb}
 
 pub returns-then-eq : goal.returns-then-eq
