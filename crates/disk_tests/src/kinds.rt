@@ -45,6 +45,7 @@ pub fn on_window<D: Spoilable + Drop>(
     play(rt, &"below", ask, &mut window.into_below(), below);
 }
 
+// A number of calls and a manner are what `Failing::new` takes; a struct of the two would be taken apart again here.
 /// Plays a script on a disk whose power fails after `calls` calls, and then one on the disk below, given back.
 pub fn on_failing<D: Spoilable + Drop>(
     rt: &impl Abort,

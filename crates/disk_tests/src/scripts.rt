@@ -8,7 +8,8 @@ use std::fmt::Debug;
 use std::process::Abort;
 
 /// A call on a disk.
-#[derive(Clone, Copy)]
+// No closure: a script is a table that can be read, and its calls are asked of disks of every kind.
+#[derive(Clone, Copy, PartialEq, Eq, Debug)]
 pub enum Call {
     Count,
     Start,

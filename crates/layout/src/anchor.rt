@@ -36,6 +36,7 @@ impl Carried for Anchor {
 }
 
 // The anchor in the bytes of a sector, if they are right.
+// Over a slice, whose length each kind asks for: no proof is made of a pattern with a rest over an array.
 fn anchor_in(bytes: &[u8]) -> Option<Anchor>
     requires { length bytes.now ≡ 512 }
     ensures { result ≡ decode_anchor bytes.now }

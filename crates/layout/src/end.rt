@@ -32,6 +32,7 @@ impl Carried for RecordEnd {
 }
 
 // The end in the bytes of a sector, if they are right.
+// Over a slice, whose length each kind asks for: no proof is made of a pattern with a rest over an array.
 fn end_in(bytes: &[u8]) -> Option<RecordEnd>
     requires { length bytes.now ≡ 512 }
     ensures { result ≡ decode_end bytes.now }

@@ -37,6 +37,7 @@ impl Carried for RecordHead {
 }
 
 // The head in the bytes of a sector, if they are right.
+// Over a slice, whose length each kind asks for: no proof is made of a pattern with a rest over an array.
 fn head_in(bytes: &[u8], limit: u8) -> Option<RecordHead>
     requires { length bytes.now ≡ 512 }
     ensures { result ≡ decode_head limit bytes.now }

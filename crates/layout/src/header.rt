@@ -40,6 +40,7 @@ impl Carried for Header {
 }
 
 // The header in the bytes of a sector, if they are right.
+// Over a slice, whose length each kind asks for: no proof is made of a pattern with a rest over an array.
 fn header_in(bytes: &[u8], count: u32) -> Option<Header>
     requires { length bytes.now ≡ 512 }
     ensures { result ≡ decode_header count bytes.now }

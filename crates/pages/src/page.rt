@@ -36,6 +36,7 @@ fn read_all<R: Stored + Copy>(page: &[u8; 512], out: &mut [R])
 }
 
 /// Makes a page of records: N and a letter, their count, and from byte 32 on the records.
+// The letter is an argument and no constant of the record's kind: a caller may ask whether a page of entries stands under another letter.
 pub fn write_page<R: Stored>(letter: u8, records: &[R], page: &mut [u8; 512])
     requires { Holds R.WIDE (length records.now) }
     ensures { page.new ≡ page_of R.bytes letter records.now }

@@ -22,6 +22,7 @@ pub fn put(rt: &impl Abort, page: &mut [u8; 512], at: usize, bytes: &[u8]) {
 
 /// Checks that no byte of `from..to` may be another: whichever of its bits is turned over, the page is of neither kind.
 pub fn are_fixed(rt: &impl Abort, page: &[u8; 512], from: usize, to: usize) {
+    // By places: a place is what is changed, and what a failure names.
     for i in from..to {
         assert!(rt; i < 512);
         for bit in [1u8, 2, 4, 8, 16, 32, 64, 128] {

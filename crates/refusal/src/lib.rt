@@ -31,6 +31,7 @@ pub enum Refusal {
 
 impl Refusal {
     /// The number by which the product's documents and reports name this refusal.
+    // No `From`: the number leaves out the place, so it is not the refusal as a number.
     pub fn number(&self) -> u8
         ensures { result ≡ number_of self.now }
     {

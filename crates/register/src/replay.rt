@@ -12,7 +12,7 @@ use names::key::Key;
 use pages::paged::Paged;
 
 /// A change of a register.
-#[derive(Clone, Copy)]
+#[derive(Clone, Copy, PartialEq, Eq, Debug)]
 pub enum Change {
     /// An entry is put in, if its key is not there.
     Put { key: Key, start: u32, length: u32 },

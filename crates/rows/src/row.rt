@@ -99,6 +99,8 @@ impl<R: Keyed, const N: usize> Row<R, N> {
     }
 }
 
+// The next three take records and their count apart: they are lent, and the memory of a volume is fixed.
+
 /// How many of the first `count` records have a key that is not above `wanted`, from the first on.
 pub fn place_in<R: Keyed>(records: &[R], count: usize, wanted: &[u8; 22]) -> usize
     requires { count ≤ length records.now }
