@@ -39,4 +39,4 @@ returns-else-len-le15 g c =
     let long = ap length c.put_in.ensures ∙ length-insert s.leaf s.place c.args.new c.requires.seated.inside in
     let by = put-by-seat (length pages) images c.args.new.key s c.requires.seated c.args.new refl in
     let halves : put_writes (length pages) c.args.new images ≡ split_writes s.at s.page q s.items es = grind (arith, nat_tests, by) in
-    c.split.ensures ∙ ap (λ l. wrote g.P.Paged.written (split_writes s.at s.page q s.items l) pages) c.put_in.ensures ∙ ap (λ ws. wrote g.P.Paged.written ws pages) (sym halves)
+    rw (halves, sym c.put_in.ensures) c.split.ensures
