@@ -115,7 +115,7 @@ fn list<D: Disk>(rt: &HostRuntime, disk: &mut D) -> anyhow::Result<()> {
 
 // Writes the tagged sectors of a small volume on a fresh image and shows them.
 fn show_sectors(rt: &HostRuntime) -> anyhow::Result<()> {
-    let mut bytes: Vec<u8> = vec![in rt.alloc(); 0; 61560]?;
+    let mut bytes: Vec<u8> = vec![in rt.alloc(); 0; listing::SECTORS as usize * 513]?;
     let mut disk = Image::new(bytes.as_mut_slice());
     listing::write_all(&mut disk).context("the disk could not be written")?;
     list(rt, &mut disk)?;

@@ -56,6 +56,7 @@ impl Lost {
             Err(_) => self,
         }
     }
+
     /// The phase after a start, or after a call with the power on again: on, if the answer is not 9.
     pub fn again(self, answer: Result<(), Fault>) -> Phase<Lost>
         ensures { result ≡ again answer self }

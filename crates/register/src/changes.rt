@@ -1,4 +1,4 @@
-// Entries put in and taken out.
+// Pages that are lent for changes: a register made, entries put in and taken out.
 ghost use Rattle.std.specs.Prelude.{◌≡◌, ◌≤◌, false, [], map, length, None};
 ghost use Rattle.names.specs.Orders.{before};
 ghost use Rattle.rows.specs.Lists.{look_up};

@@ -1,11 +1,11 @@
-// A row of records in the order of their keys, and the same calls on records that are lent.
-ghost use Rattle.std.specs.Prelude.{◌≡◌, ◌+◌, ◌-◌, ◌<◌, ◌≤◌, List, [], map, length, take, slice_set};
+// A row of records, and the same calls on records that are lent.
+ghost use Rattle.std.specs.Prelude.{◌≡◌, ◌+◌, ◌-◌, ◌<◌, ◌≤◌, List, map, length, take, slice_set};
 ghost use Rattle.rows.specs.Lists.{up_to, put_at, without};
 
 use crate::keyed::Keyed;
 use std::marker::Model;
 
-/// At most `N` records, in the order of their keys. `docs/CALLS.md` says what its calls do.
+/// At most `N` records, whose users keep them in the order of their keys. `docs/CALLS.md` says what its calls do.
 #[derive(Drop)]
 pub struct Row<R, const N: usize> {
     records: [R; N],
@@ -48,18 +48,6 @@ impl<R, const N: usize> Row<R, N> {
 }
 
 impl<R: Copy, const N: usize> Row<R, N> {
-    /// A row without records.
-    pub fn new() -> Row<R, N>
-    where
-        R: Default,
-        ensures { result ≡ [] }
-    {
-        Row {
-            records: [R::default(); N],
-            count: 0,
-        }
-    }
-
     /// Puts a record in at a place; those from there on move up by one.
     pub fn put_in(&mut self, at: usize, new: R)
         requires room { length self.old < N }
