@@ -1,7 +1,8 @@
 -- The manners of a cut.
 --     leaves       the sectors that a write of bytes to sector s leaves, in each manner
 --     number_of    a number for each manner
-use Rattle.std.specs.Prelude.{ℕ, ◌+◌, ◌-◌, List, slice_set}
+--     words_of     the words of a report, as ASCII codes
+use Rattle.std.specs.Prelude.{ℕ, ◌+◌, ◌-◌, List, slice_set, codes}
 use Rattle.disk.specs.Sectors.{Sector, unreadable, holds}
 use Rattle.failing.specs.declared.manner.Manner.{Manner}
 use Rattle.failing.specs.declared.manner.Manner.TheVariants.{AsBefore, NewBytes, Own, OwnAndBelow, OwnAndAbove}
@@ -19,3 +20,10 @@ number_of NewBytes = 1
 number_of Own = 2
 number_of OwnAndBelow = 3
 number_of OwnAndAbove = 4
+
+abbrev pub words_of : Manner → List ℕ
+words_of AsBefore = codes "the sector as before"
+words_of NewBytes = codes "the sector with the new bytes"
+words_of Own = codes "the sector unreadable"
+words_of OwnAndBelow = codes "the sector and the one below it unreadable"
+words_of OwnAndAbove = codes "the sector and the one above it unreadable"

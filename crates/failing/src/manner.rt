@@ -1,4 +1,7 @@
 // What a write may leave in whose course the power fails.
+ghost use Rattle.std.specs.Prelude.{◌≡◌, Some};
+ghost use Rattle.failing.specs.Manners.{words_of};
+
 use std::fmt;
 
 /// The manners that the cut rule allows, for a write of a sector.
@@ -16,14 +19,26 @@ pub enum Manner {
     OwnAndAbove,
 }
 
-impl fmt::Display for Manner {
-    fn fmt<W: fmt::Write>(&self, f: &mut fmt::Formatter<W>) -> fmt::Result {
-        f.pad(match self {
+impl Manner {
+    /// The manner in words, for a report.
+    pub fn words(self) -> &'static str
+        ensures { result.now ≡ words_of self }
+    {
+        match self {
             Manner::AsBefore => "the sector as before",
             Manner::NewBytes => "the sector with the new bytes",
             Manner::Own => "the sector unreadable",
             Manner::OwnAndBelow => "the sector and the one below it unreadable",
             Manner::OwnAndAbove => "the sector and the one above it unreadable",
-        })
+        }
+    }
+}
+
+/// Writes the words.
+impl fmt::Display for Manner {
+    ghost output = { λ manner. Some (words_of manner) };
+
+    fn fmt<W: fmt::Write>(&self, f: &mut fmt::Formatter<W>) -> fmt::Result {
+        f.pad(self.words())
     }
 }

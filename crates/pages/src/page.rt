@@ -48,6 +48,18 @@ pub fn write_page<R: Stored>(letter: u8, records: &[R], page: &mut [u8; 512])
     write_all(records, page);
 }
 
+/// Reads the records of a page, at most so many, and says how many there are.
+pub fn read_page<R: Stored + Copy>(page: &[u8; 512], most: usize, out: &mut [R]) -> usize
+    requires { Room R.WIDE most × (most ≤ length out.old) }
+    ensures count { result ≡ min (slice_index page.now 2) most }
+    ensures held { take result out.new ≡ records_of R.value R.WIDE most page.now }
+    ensures rest { drop result out.new ≡ drop result out.old }
+{
+    let n = (page[2] as usize).min(most);
+    read_all(page, &mut out[0..n]);
+    n
+}
+
 /// Whether a page is just what these records make under a letter.
 pub fn formed<R: Stored>(letter: u8, records: &[R], page: &[u8; 512]) -> bool
     requires { Holds R.WIDE (length records.now) }
@@ -67,9 +79,8 @@ pub fn read_row<R: Stored + Copy + Default, const N: usize>(
     requires within { most ≤ N }
     ensures { result ≡ records_of R.value R.WIDE most page.now }
 {
-    let count = usize::from(page[2]).min(most);
     let mut records = [R::default(); N];
-    read_all(page, &mut records[..count]);
+    let count = read_page(page, most, &mut records);
     Row::of(records, count)
 }
 

@@ -86,7 +86,7 @@ all-entries Q (n ∷ t) a = let h = all-parts Q n.entries (entries t) a in (h.0,
 leaves-read : (images : List (List ℕ)) (t : Tree) → AllByRecursion (OnPage images) t → AllByRecursion (λ n. AllByRecursion EntryFit n.entries) t → AllByRecursion (λ n. length n.entries ≤ 15) t → AllByRecursion (λ n. leaf_of images n.page ≡ n.entries) t
 leaves-read images [] a f s = tt
 leaves-read images (n ∷ t) a f s = (
-  ap (records_of entry_of 32 15) a.0 ∙ page-back entry_bytes entry_of 32 EntryFit entry-long entry-back 76 15 n.entries f.0 s.0,
+  ap (records_of entry_of 32 15) a.0 ∙ page-back entry_bytes entry_of 32 EntryFit entry-long entry-back 76 15 n.entries f.0 s.0 (omega arith) (omega arith),
   leaves-read images t a.1 f.1 s.1,
 )
 
@@ -98,7 +98,7 @@ pub tree-register : (P : ℕ) (images : List (List ℕ)) (t : Tree) → 2 ≤ P 
 tree-register P images t least most all h g =
     let f = items-good P most t (separators-long (items_for t) g.separators) g.shape.range in
     let few : length (items_for t) ≤ 20 = omega (arith, g.shape.few, length-map t item_for) in
-    let is : items_of images ≡ items_for t = ap (records_of item_of 24 20) h.root ∙ page-back item_bytes item_of 24 ItemFit item-long item_back 82 20 (items_for t) f few in
+    let is : items_of images ≡ items_for t = ap (records_of item_of 24 20) h.root ∙ page-back item_bytes item_of 24 ItemFit item-long item_back 82 20 (items_for t) f few (omega arith) (omega arith) in
     let e : tree_of images ≡ t = ap (map (node_of images)) is ∙ nodes-read images t (leaves-read images t h.leaves (all-entries EntryFit t g.fit) g.shape.sizes) in (
       record {
         least = least;
