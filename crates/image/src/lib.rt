@@ -7,7 +7,7 @@ ghost use Rattle.disk.specs.Layers.{Layers};
 ghost use Rattle.disk.specs.Rules.{Starts, Reads, Writes, Spoils};
 ghost use Rattle.image.specs.Images.{image_state, image_layers, SectorStored, SectorWritten, SectorSpoiled};
 ghost use Rattle.image.specs.ImageSound.{image-sound};
-ghost use Rattle.image.specs.OfImage.{state_of, layers_of, bytes_of};
+ghost use Rattle.image.specs.OfImage.{state_of, layers_of, bytes_of, Placed, Reached};
 
 use disk::disks::{Disk, Spoilable};
 use disk::faults::Fault;
@@ -19,10 +19,14 @@ pub struct Image<'a> {
     power: bool,
 }
 
-// A sector's bytes are 512, each below 256: the check knows it of an array that is passed by value, and not of one that a slice was copied into.
-fn told(bytes: [u8; 512])
-    ensures { Bytes bytes }
-{}
+// Copies the bytes of a sector into `buffer`. Each is below 256, which the check knows of a slice that is passed, and not of the bytes of an image.
+fn fill(buffer: &mut [u8; 512], bytes: &[u8])
+    requires { length bytes.now ≡ 512 }
+    ensures same { buffer.new ≡ bytes.now }
+    ensures whole { Bytes buffer.new }
+{
+    buffer.copy_from_slice(bytes);
+}
 
 impl<'a> Image<'a> {
     /// The disk in `bytes`, with power on. It has a sector for each whole 513 bytes, and 65,536 at the most.
@@ -43,14 +47,34 @@ impl<'a> Image<'a> {
         self.power = false;
     }
 
-    // Copies the 512 bytes from `at` on into `buffer`.
-    fn fill(&self, at: usize, buffer: &mut [u8; 512])
+    // The 512 bytes from `at` on.
+    fn block(&self, at: usize) -> &[u8]
         requires { at + 512 ≤ length self.now.bytes.now }
-        ensures bytes { buffer.new ≡ take 512 (drop at self.now.bytes.now) }
-        ensures whole { Bytes buffer.new }
+        ensures is { result.now ≡ take 512 (drop at self.now.bytes.now) }
+        ensures long { length result.now ≡ 512 }
     {
-        buffer.copy_from_slice(&self.bytes[at..at + 512]);
-        told(*buffer);
+        &self.bytes[at..at + 512]
+    }
+
+    // The byte where a sector begins, which is its mark.
+    #[tactic(auto, using(crate::proofs::Counted::counted))]
+    fn place(&self, sector: u32) -> Result<usize, Fault>
+        ensures { Placed self.now sector result }
+    {
+        if sector >= self.count() {
+            return Err(Fault::NoSuchSector);
+        }
+        Ok(sector as usize * 513)
+    }
+
+    // The same where the power must be on, as for a read and a write.
+    fn reach(&self, sector: u32) -> Result<usize, Fault>
+        ensures { Reached self.now sector result }
+    {
+        if !self.power {
+            return Err(Fault::PowerOff(sector));
+        }
+        self.place(sector)
     }
 }
 
@@ -75,39 +99,25 @@ impl Disk for Image<'_> {
         Ok(())
     }
 
-    #[tactic(auto, using(crate::proofs::Counted::counted))]
     fn read(&mut self, sector: u32, buffer: &mut [u8; 512]) -> Result<(), Fault>
         ensures rule { Reads sector (state_of self.old) buffer.old result (state_of self.new) buffer.new }
         ensures same { layers_of self.new ≡ layers_of self.old }
         ensures bytes { SectorStored sector (bytes_of self.old) buffer.new result (bytes_of self.new) }
     {
-        if !self.power {
-            return Err(Fault::PowerOff(sector));
-        }
-        if sector >= (*self).count() {
-            return Err(Fault::NoSuchSector);
-        }
-        let at = sector as usize * 513;
+        let at = self.reach(sector)?;
         if self.bytes[at] != 0 {
             return Err(Fault::Unreadable(sector));
         }
-        self.fill(at + 1, buffer);
+        fill(buffer, self.block(at + 1));
         Ok(())
     }
 
-    #[tactic(auto, using(crate::proofs::Counted::counted))]
     fn write(&mut self, sector: u32, bytes: &[u8; 512]) -> Result<(), Fault>
         ensures rule { Writes sector bytes.now (state_of self.old) result (state_of self.new) }
         ensures same { layers_of self.new ≡ layers_of self.old }
         ensures bytes { SectorWritten sector bytes.now (bytes_of self.old) result (bytes_of self.new) }
     {
-        if !self.power {
-            return Err(Fault::PowerOff(sector));
-        }
-        if sector >= (*self).count() {
-            return Err(Fault::NoSuchSector);
-        }
-        let at = sector as usize * 513;
+        let at = self.reach(sector)?;
         self.bytes[at] = 0;
         self.bytes[at + 1..at + 513].copy_from_slice(bytes);
         Ok(())
@@ -115,16 +125,12 @@ impl Disk for Image<'_> {
 }
 
 impl Spoilable for Image<'_> {
-    #[tactic(auto, using(crate::proofs::Counted::counted))]
     fn spoil(&mut self, sector: u32) -> Result<(), Fault>
         ensures rule { Spoils sector (state_of self.old) result (state_of self.new) }
         ensures same { layers_of self.new ≡ layers_of self.old }
         ensures bytes { SectorSpoiled sector (bytes_of self.old) result (bytes_of self.new) }
     {
-        if sector >= (*self).count() {
-            return Err(Fault::NoSuchSector);
-        }
-        let at = sector as usize * 513;
+        let at = self.place(sector)?;
         self.bytes[at] = 1;
         Ok(())
     }

@@ -1,18 +1,14 @@
-use Rattle.std.proofs.Common.{◌<◌, refl, arith}
-use Rattle.image.specs.Images.{count_in}
+use Rattle.std.proofs.Common.{refl, arith}
 use Rattle.image.specs.ImageSound.{length-sectors}
-use Rattle.image.proofs.OneSector.{one-changed, same-layers}
+use Rattle.image.proofs.OneSector.{one-changed}
 use Rattle.image.proofs.Stored.{spoiled-beside, spoiled-is}
 use Rattle.image.proofs.ImageSpoilable.spoil.Goals as goal
 
-pub returns : goal.returns
-returns c =
+pub returns-clause-rule : goal.returns-clause-rule
+returns-clause-rule c =
     let b = c.args.self.now.bytes.now in
     let s = c.args.sector in
-    let n = length-sectors b in
-    let w : s < count_in b = omega arith in
-    record {
-      rule = (omega arith, refl, one-changed b _ s (spoiled-beside b s) _ w (spoiled-is b s w));
-      same = same-layers b _ s (spoiled-beside b s) c.args.self.now.bytes.ghost_name w;
-      bytes = refl;
-    }
+    let at = c.in_ok-at.at in
+    let w = c.in_ok-at.ensures.0 in
+    let e = c.in_ok-at.ensures.1 in
+    (omega (arith, length-sectors b), refl, one-changed b _ s (spoiled-beside b s at e) _ w (spoiled-is b s at e w))
