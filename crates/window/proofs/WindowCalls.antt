@@ -1,7 +1,7 @@
 -- What a call does to the disk below is what the window's call does to the window.
 --     part-cut                                         the cut rule below is the cut rule of the window, where a neighbour outside is not seen
---     reads-retold, writes-retold, spoils-retold       each call's rule, at the answer of the disk below, retold
---     window-reads, window-writes, window-spoils       the same at the answer that the window gives
+--     window-reads, window-writes, window-spoils       each call's rule, at the answer of the disk below and at the window's, which retells it
+--     calls                                            these, which the check takes up by itself
 use Rattle.std.proofs.Common.{◌≡◌, ℕ, zero, suc, ◌+◌, ◌-◌, ◌<◌, ◌≤◌, List, [], ◌∷◌, take, drop, set, Ok, Err, refl, ap, ◌∙◌, ⊎_elim, arith}
 use Rattle.std.proofs.lemmas.List.{get_or-take, get_or-drop, drop-set-add, drop-set-lt}
 use Rattle.std.proofs.lemmas.Bool.{cases_lt}
@@ -70,12 +70,12 @@ module _ (f n : ℕ) where
   window-read-off i at d e p (read-was-off off same) = read-was-off off (ap (windowed f n) same)
   window-read-off i at d e p (read-failed on bytes a off same) = read-failed on bytes (window-at i at d (holds bytes) p a) off (ap part same)
 
-  reads-retold : (i at : ℕ) (d e : DiskState) (old new : List ℕ) (r : Answer)
-      → Placed f n i d at → Reads at d old r e new → Reads i (windowed f n d) old (retold i r) (windowed f n e) new
-  reads-retold i at d e old new (Ok x) p h = (h.0, window-at i at d (holds new) p h.1, ap (windowed f n) h.2)
-  reads-retold i at d e old new (Err (PowerOff q)) p h = (h.0, (refl, window-read-off i at d e p h.1.1))
-  reads-retold i at d e old new (Err (Unreadable q)) p h = (h.0, (refl, h.1.1, window-at i at d unreadable p h.1.2, ap (windowed f n) h.1.3))
-  reads-retold i at d e old new (Err NoSuchSector) p h = (h.0, (h.1.0, past i at d p h.1.1, ap (windowed f n) h.1.2))
+  pub window-reads : (i at : ℕ) (d e : DiskState) (old new : List ℕ) (r q : Answer)
+      → Placed f n i d at → Reads at d old r e new → q ≡ retold i r → Reads i (windowed f n d) old q (windowed f n e) new
+  window-reads i at d e old new (Ok x) q p h is = rw is (h.0, window-at i at d (holds new) p h.1, ap (windowed f n) h.2)
+  window-reads i at d e old new (Err (PowerOff _)) q p h is = rw is (h.0, (refl, window-read-off i at d e p h.1.1))
+  window-reads i at d e old new (Err (Unreadable _)) q p h is = rw is (h.0, (refl, h.1.1, window-at i at d unreadable p h.1.2, ap (windowed f n) h.1.3))
+  window-reads i at d e old new (Err NoSuchSector) q p h is = rw is (h.0, (h.1.0, past i at d p h.1.1, ap (windowed f n) h.1.2))
 
   window-write-off : (i at : ℕ) (bytes : List ℕ) (d e : DiskState) → Placed f n i d at → WriteOff at bytes d e → WriteOff i bytes (windowed f n d) (windowed f n e)
   window-write-off i at bytes d e p (write-was-off off same) = write-was-off off (ap (windowed f n) same)
@@ -83,32 +83,22 @@ module _ (f n : ℕ) where
       let w = within i at d p l in
       write-failed on w.0 off (part-cut i at bytes d.sectors e.sectors w.1 cut)
 
-  writes-retold : (i at : ℕ) (bytes : List ℕ) (d e : DiskState) (r : Answer)
-      → Placed f n i d at → Writes at bytes d r e → Writes i bytes (windowed f n d) (retold i r) (windowed f n e)
-  writes-retold i at bytes d e (Ok x) p h =
-      let w = within i at d p h.1 in
-      (h.0, w.0, h.2, ap part (rw w.1 at h.3) ∙ part-set d.sectors i (holds bytes))
-  writes-retold i at bytes d e (Err (PowerOff q)) p h = (refl, window-write-off i at bytes d e p h.1)
-  writes-retold i at bytes d e (Err (Unreadable q)) p h = h
-  writes-retold i at bytes d e (Err NoSuchSector) p h = (h.0, past i at d p h.1, ap (windowed f n) h.2)
-
-  spoils-retold : (i at : ℕ) (d e : DiskState) (r : Answer)
-      → Placed f n i d at → Spoils at d r e → Spoils i (windowed f n d) (retold i r) (windowed f n e)
-  spoils-retold i at d e (Ok x) p h =
-      let w = within i at d p h.0 in
-      (w.0, h.1, ap part (rw w.1 at h.2) ∙ part-set d.sectors i unreadable)
-  spoils-retold i at d e (Err (PowerOff q)) p h = h
-  spoils-retold i at d e (Err (Unreadable q)) p h = h
-  spoils-retold i at d e (Err NoSuchSector) p h = (past i at d p h.0, ap (windowed f n) h.1)
-
-  pub window-reads : (i at : ℕ) (d e : DiskState) (old new : List ℕ) (r q : Answer)
-      → q ≡ retold i r → Placed f n i d at → Reads at d old r e new → Reads i (windowed f n d) old q (windowed f n e) new
-  window-reads i at d e old new r q is p h = rw is (reads-retold i at d e old new r p h)
-
   pub window-writes : (i at : ℕ) (bytes : List ℕ) (d e : DiskState) (r q : Answer)
-      → q ≡ retold i r → Placed f n i d at → Writes at bytes d r e → Writes i bytes (windowed f n d) q (windowed f n e)
-  window-writes i at bytes d e r q is p h = rw is (writes-retold i at bytes d e r p h)
+      → Placed f n i d at → Writes at bytes d r e → q ≡ retold i r → Writes i bytes (windowed f n d) q (windowed f n e)
+  window-writes i at bytes d e (Ok x) q p h is =
+      let w = within i at d p h.1 in
+      rw is (h.0, w.0, h.2, ap part (rw w.1 at h.3) ∙ part-set d.sectors i (holds bytes))
+  window-writes i at bytes d e (Err (PowerOff _)) q p h is = rw is (refl, window-write-off i at bytes d e p h.1)
+  window-writes i at bytes d e (Err (Unreadable _)) q p h is = rw is h
+  window-writes i at bytes d e (Err NoSuchSector) q p h is = rw is (h.0, past i at d p h.1, ap (windowed f n) h.2)
 
   pub window-spoils : (i at : ℕ) (d e : DiskState) (r q : Answer)
-      → q ≡ retold i r → Placed f n i d at → Spoils at d r e → Spoils i (windowed f n d) q (windowed f n e)
-  window-spoils i at d e r q is p h = rw is (spoils-retold i at d e r p h)
+      → Placed f n i d at → Spoils at d r e → q ≡ retold i r → Spoils i (windowed f n d) q (windowed f n e)
+  window-spoils i at d e (Ok x) q p h is =
+      let w = within i at d p h.0 in
+      rw is (w.0, h.1, ap part (rw w.1 at h.2) ∙ part-set d.sectors i unreadable)
+  window-spoils i at d e (Err (PowerOff _)) q p h is = rw is h
+  window-spoils i at d e (Err (Unreadable _)) q p h is = rw is h
+  window-spoils i at d e (Err NoSuchSector) q p h is = rw is (past i at d p h.0, ap (windowed f n) h.1)
+
+pub ruleset calls = (window-reads, window-writes, window-spoils)

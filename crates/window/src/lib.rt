@@ -74,6 +74,7 @@ impl<D: Disk> Disk for Window<D> {
         self.below.start()
     }
 
+    #[tactic(auto, using(crate::proofs::WindowCalls::calls))]
     fn read(&mut self, sector: u32, buffer: &mut [u8; 512]) -> Result<(), Fault>
         ensures rule { Reads sector (window_state D.Disk.state self.old) buffer.old result (window_state D.Disk.state self.new) buffer.new }
         ensures same { window_layers D.Disk.layers self.new ≡ window_layers D.Disk.layers self.old }
@@ -85,6 +86,7 @@ impl<D: Disk> Disk for Window<D> {
             .map_err(|fault| fault.at(sector))
     }
 
+    #[tactic(auto, using(crate::proofs::WindowCalls::calls))]
     fn write(&mut self, sector: u32, bytes: &[u8; 512]) -> Result<(), Fault>
         ensures rule { Writes sector bytes.now (window_state D.Disk.state self.old) result (window_state D.Disk.state self.new) }
         ensures same { window_layers D.Disk.layers self.new ≡ window_layers D.Disk.layers self.old }
@@ -98,6 +100,7 @@ impl<D: Disk> Disk for Window<D> {
 }
 
 impl<D: Spoilable> Spoilable for Window<D> {
+    #[tactic(auto, using(crate::proofs::WindowCalls::calls))]
     fn spoil(&mut self, sector: u32) -> Result<(), Fault>
         ensures rule { Spoils sector (window_state D.Disk.state self.old) result (window_state D.Disk.state self.new) }
         ensures same { window_layers D.Disk.layers self.new ≡ window_layers D.Disk.layers self.old }
