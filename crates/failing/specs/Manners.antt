@@ -1,8 +1,9 @@
 -- The manners of a cut.
---     leaves       the sectors that a write of bytes to sector s leaves, in each manner
---     number_of    a number for each manner
---     words_of     the words of a report, as ASCII codes
-use Rattle.std.specs.Prelude.{ℕ, ◌+◌, ◌-◌, List, slice_set, codes}
+--     leaves          the sectors that a write of bytes to sector s leaves, in each manner
+--     neighbour_of    the sector beside sector s that a manner makes unreadable too
+--     number_of       a number for each manner
+--     words_of        the words of a report, as ASCII codes
+use Rattle.std.specs.Prelude.{ℕ, ◌+◌, ◌-◌, List, Option, Some, None, slice_set, codes}
 use Rattle.disk.specs.Sectors.{Sector, unreadable, holds}
 use Rattle.failing.specs.declared.manner.Manner.{Manner}
 use Rattle.failing.specs.declared.manner.Manner.TheVariants.{AsBefore, NewBytes, Own, OwnAndBelow, OwnAndAbove}
@@ -13,6 +14,13 @@ leaves NewBytes s bytes l = slice_set l s (holds bytes)
 leaves Own s bytes l = slice_set l s unreadable
 leaves OwnAndBelow s bytes l = slice_set (slice_set l s unreadable) (s - 1) unreadable
 leaves OwnAndAbove s bytes l = slice_set (slice_set l s unreadable) (s + 1) unreadable
+
+abbrev pub neighbour_of : Manner → ℕ → Option ℕ
+neighbour_of AsBefore s = None
+neighbour_of NewBytes s = None
+neighbour_of Own s = None
+neighbour_of OwnAndBelow s = Some (s - 1)
+neighbour_of OwnAndAbove s = Some (s + 1)
 
 abbrev pub number_of : Manner → ℕ
 number_of AsBefore = 0

@@ -14,7 +14,7 @@ use disk::disks::{Disk, Spoilable};
 use disk::faults::Fault;
 
 /// A disk that carries out a number of calls, and loses its power in the next one that it could carry out. Then it works on as the disk below does.
-// Not one generic disk with `Marking`, which would be no plainer: by `WriteDue` the disk below holds what `leaves` says, by `Refuses` a power failure below in the chosen write may count, and by `Waits` every call with the power on again is the disk below's own, whose power it never asks for. A trait for the losses would have 7 ghost values, 5 functions and 9 laws, each given twice, and is longer than what the two repeat.
+// Not one generic disk with `Marking`, which would be no plainer: by `WriteDue` the disk below holds what `leaves` says, by `Refuses` a power failure below in the chosen write may count, and by `Waits` every call with the power on again is the disk below's own, whose power it never asks for. A trait for the losses would have 7 ghost values, 5 functions and 9 laws, each given twice, and is longer than what the two repeat: `new`, `into_below`, and how the chosen call comes.
 #[derive(Drop)]
 pub struct Failing<D> {
     below: D,
@@ -59,16 +59,11 @@ impl<D: Spoilable> Failing<D> {
             Manner::NewBytes => {
                 let _ = self.below.write(sector, bytes);
             }
-            Manner::Own => {
+            Manner::Own | Manner::OwnAndBelow | Manner::OwnAndAbove => {
                 let _ = self.below.spoil(sector);
-            }
-            Manner::OwnAndBelow => {
-                let _ = self.below.spoil(sector);
-                let _ = self.below.spoil(sector.saturating_sub(1));
-            }
-            Manner::OwnAndAbove => {
-                let _ = self.below.spoil(sector);
-                let _ = self.below.spoil(sector + 1);
+                if let Some(neighbour) = self.manner.neighbour(sector) {
+                    let _ = self.below.spoil(neighbour);
+                }
             }
         }
     }

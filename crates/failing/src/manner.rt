@@ -1,6 +1,6 @@
 // What a write may leave in whose course the power fails.
-ghost use Rattle.std.specs.Prelude.{◌≡◌, Some};
-ghost use Rattle.failing.specs.Manners.{words_of};
+ghost use Rattle.std.specs.Prelude.{◌≡◌, ◌<◌, Some};
+ghost use Rattle.failing.specs.Manners.{neighbour_of, words_of};
 
 use std::fmt;
 
@@ -20,6 +20,28 @@ pub enum Manner {
 }
 
 impl Manner {
+    /// The five manners, in order.
+    pub const ALL: [Manner; 5] = [
+        Manner::AsBefore,
+        Manner::NewBytes,
+        Manner::Own,
+        Manner::OwnAndBelow,
+        Manner::OwnAndAbove,
+    ];
+
+    /// The sector beside `sector` that is unreadable too. Below sector 0 that is sector 0 itself.
+    // The sector is below 65,536, since no `u32` is the one above the highest.
+    pub fn neighbour(self, sector: u32) -> Option<u32>
+        requires { sector < 65536 }
+        ensures { result ≡ neighbour_of self sector }
+    {
+        match self {
+            Manner::AsBefore | Manner::NewBytes | Manner::Own => None,
+            Manner::OwnAndBelow => Some(sector.saturating_sub(1)),
+            Manner::OwnAndAbove => Some(sector + 1),
+        }
+    }
+
     /// The manner in words, for a report.
     pub fn words(self) -> &'static str
         ensures { result.now ≡ words_of self }

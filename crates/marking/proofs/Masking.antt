@@ -7,6 +7,7 @@
 --     masked_cut             the cut rule below is the cut rule where sectors are marked
 --     writes-seen, reads-seen    the rules of a write and a read with the power on again
 --     spoils-seen            the rule of spoil
+--     spoiling               this lemma, which the check takes up by itself
 use Rattle.std.proofs.Common.{◌≡◌, ℕ, ◌+◌, ◌-◌, Bool, true, false, ◌==◌, cond, ◌⊎◌, List, length, get_or, set, Option, Some, None, Ok, Err, sym, refl, ap, ◌∙◌, inl, inr, ⊎_elim, arith}
 use Rattle.std.proofs.Math.Seq.{set-set, set_comm}
 use Rattle.std.proofs.lemmas.List.{get_or-set_other}
@@ -135,3 +136,5 @@ spoils-seen phase s d (Ok _) e h =
 spoils-seen phase s d (Err (PowerOff p)) e h = h
 spoils-seen phase s d (Err (Unreadable p)) e h = h
 spoils-seen phase s d (Err NoSuchSector) e h = (omega (arith, h.0, length_masked (lost_in phase) d.sectors), ap (seen phase) h.1)
+
+pub ruleset spoiling = (spoils-seen)

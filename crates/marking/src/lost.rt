@@ -23,18 +23,18 @@ impl Lost {
     };
 
     /// The sectors that a cut by `manner` makes unreadable in a write of `sector`.
-    // The sector is below 65,536, since no `u32` is the mark above the highest one.
     pub fn by(manner: Manner, sector: u32) -> Lost
         requires { sector < 65536 }
         ensures { result ≡ lost_by manner sector }
     {
-        let (own, neighbour) = match manner {
-            Manner::AsBefore | Manner::NewBytes => (None, None),
-            Manner::Own => (Some(sector), None),
-            Manner::OwnAndBelow => (Some(sector), Some(sector.saturating_sub(1))),
-            Manner::OwnAndAbove => (Some(sector), Some(sector + 1)),
+        let own = match manner {
+            Manner::AsBefore | Manner::NewBytes => None,
+            Manner::Own | Manner::OwnAndBelow | Manner::OwnAndAbove => Some(sector),
         };
-        Lost { own, neighbour }
+        Lost {
+            own,
+            neighbour: manner.neighbour(sector),
+        }
     }
 
     /// Whether a sector is marked.

@@ -10,7 +10,7 @@ use failing::phase::Phase;
 use failing::probe::{probe, reach};
 
 /// A disk that carries out a number of calls, and loses its power in the next one that it could carry out. Then it works on as the disk below does, but for the sectors that the cut made unreadable: they stay so until they are written. `Failing` makes the lost sectors unreadable on the disk below, which must be one that can be spoiled; `Marking` is over any disk and keeps marks of its own, which are gone when it is taken away.
-// Not one generic disk with `Failing`, which would be no plainer: `WriteDue` tells what the disk below stores and which sectors are marked, `Refuses` does not count a power failure below in the chosen write, `ReadAgain` refuses lost sectors and so must know (`known`) that the power below is on, and a failure below is the phase `Off`, where `Waits` of `Failing` promises that it is not.
+// Not one generic disk with `Failing`, though `new` and `into_below` are the same in both, since it would be no plainer: `WriteDue` tells what the disk below stores and which sectors are marked, `Refuses` does not count a power failure below in the chosen write, `ReadAgain` refuses lost sectors and so must know (`known`) that the power below is on, and a failure below is the phase `Off`, where `Waits` of `Failing` promises that it is not.
 #[derive(Drop)]
 pub struct Marking<D: Disk> {
     below: D,
@@ -182,6 +182,7 @@ impl<D: Spoilable> Spoilable for Marking<D> {
     ghost use Rattle.disk.specs.Rules.{Spoils};
     ghost use Rattle.marking.specs.OfMarking.{marking_state, marking_layers, Spoiled};
 
+    #[tactic(auto, using(crate::proofs::Masking::spoiling))]
     fn spoil(&mut self, sector: u32) -> Result<(), Fault>
         ensures rule { Spoils sector (marking_state self.old) result (marking_state self.new) }
         ensures same { marking_layers self.new ≡ marking_layers self.old }

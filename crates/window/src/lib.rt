@@ -33,6 +33,7 @@ impl<D: Disk> Window<D> {
     }
 
     /// The disk below, given back.
+    // No trait for the three disks above another that give it back: each impl would hold the same two lines.
     pub fn into_below(self) -> D
         ensures { result ≡ below_of self }
     {

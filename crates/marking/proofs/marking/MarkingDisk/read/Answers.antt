@@ -1,6 +1,6 @@
-use Rattle.std.proofs.Common.{refl, ap, arith}
+use Rattle.std.proofs.Common.{ap, arith}
 use Rattle.std.proofs.lemmas.Grind.{common_steps}
-use Rattle.failing.proofs.Probed.{probe-fails}
+use Rattle.failing.proofs.Probed.{chosen-read}
 use Rattle.marking.specs.Marks.{IsLost}
 use Rattle.marking.specs.Phases.{is_on}
 use Rattle.marking.proofs.Masking.{reads-seen}
@@ -8,9 +8,7 @@ use Rattle.marking.proofs.marking.MarkingDisk.read.Goals as goal
 
 pub returns-in_ok-probe-in-Before-eq0-clause-rule :
     goal.returns-in_ok-probe-in-Before-eq0-clause-rule
-returns-in_ok-probe-in-Before-eq0-clause-rule g c =
-    let st = g.D.Disk.state in
-    rw c.in-Before-eq0.is (refl, (refl, probe-fails c.args.sector (st c.args.self.now.below) (st c.probe.new.disk) c.in_ok-probe-in-Before-eq0.ensures.rule))
+returns-in_ok-probe-in-Before-eq0-clause-rule g c = rw c.in-Before-eq0.is (chosen-read _ _ _ _ c.in_ok-probe-in-Before-eq0.ensures.rule)
 
 pub returns-else-has-clause-rule : goal.returns-else-has-clause-rule
 returns-else-has-clause-rule g c =
