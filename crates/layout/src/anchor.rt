@@ -3,8 +3,9 @@ ghost use Rattle.std.specs.Prelude.{◌≡◌, length};
 ghost use Rattle.layout.specs.Anchors.{encode_anchor, decode_anchor, AnchorFits};
 
 use crate::carried::Carried;
-use crate::fill::{are_zeros, fill};
+use crate::rest::are_zeros;
 use geometry::third::Third;
+use padding::padded;
 
 /// The anchored third, and the group number of the first record in it.
 #[derive(Clone, Copy, PartialEq, Eq, Debug)]
@@ -22,12 +23,10 @@ impl Carried for Anchor {
 
     ghost decoded = { λ _. decode_anchor };
 
+    #[tactic(auto, unfolding(crate::specs::Padded::padded))]
     fn encode(&self, sector: &mut [u8; 512]) {
         let [a, b, c, d] = self.group.to_be_bytes();
-        fill(
-            sector,
-            &[b'F', b'S', b'D', b'A', u8::from(self.third), a, b, c, d],
-        );
+        *sector = padded(&[b'F', b'S', b'D', b'A', u8::from(self.third), a, b, c, d]);
     }
 
     fn decode(sector: &[u8; 512], _known: ()) -> Option<Anchor> {

@@ -3,7 +3,8 @@ ghost use Rattle.std.specs.Prelude.{◌≡◌, length};
 ghost use Rattle.layout.specs.Ends.{encode_end, decode_end, EndFits};
 
 use crate::carried::Carried;
-use crate::fill::{are_zeros, fill};
+use crate::rest::are_zeros;
+use padding::padded;
 
 /// The group number of a record, and how many pages it has.
 #[derive(Clone, Copy, PartialEq, Eq, Debug)]
@@ -21,9 +22,10 @@ impl Carried for RecordEnd {
 
     ghost decoded = { λ _. decode_end };
 
+    #[tactic(auto, unfolding(crate::specs::Padded::padded))]
     fn encode(&self, sector: &mut [u8; 512]) {
         let [a, b, c, d] = self.group.to_be_bytes();
-        fill(sector, &[b'F', b'S', b'D', b'E', a, b, c, d, self.count]);
+        *sector = padded(&[b'F', b'S', b'D', b'E', a, b, c, d, self.count]);
     }
 
     fn decode(sector: &[u8; 512], _known: ()) -> Option<RecordEnd> {

@@ -4,7 +4,8 @@ ghost use Rattle.std.specs.List.{list_all};
 ghost use Rattle.layout.specs.Heads.{encode_head, decode_head, head_of, HeadFits, good_pages, rises};
 
 use crate::carried::Carried;
-use crate::fill::{are_zeros, fill};
+use crate::rest::are_zeros;
+use padding::padded;
 
 /// The group number of a record, how many pages it has, and their numbers. The places after those are zero.
 // The numbers stay in an array with their count beside it: that is the stored form, and the decoder says that the places after them are zero.
@@ -27,7 +28,7 @@ impl Carried for RecordHead {
 
     fn encode(&self, sector: &mut [u8; 512]) {
         let [a, b, c, d] = self.group.to_be_bytes();
-        fill(sector, &[b'F', b'S', b'D', b'H', a, b, c, d, self.count]);
+        *sector = padded(&[b'F', b'S', b'D', b'H', a, b, c, d, self.count]);
         sector[9..30].copy_from_slice(&self.pages);
     }
 

@@ -3,8 +3,9 @@ ghost use Rattle.std.specs.Prelude.{◌≡◌, length};
 ghost use Rattle.layout.specs.Headers.{encode_header, decode_header, header_of, HeaderFits};
 
 use crate::carried::Carried;
-use crate::fill::{are_zeros, fill};
+use crate::rest::are_zeros;
 use geometry::geometry::Geometry;
+use padding::padded;
 
 /// The number of pages, the sectors of a third and the sectors of the disk.
 // No Geometry: a header may hold numbers that are not good, and holds each in its own number of bytes.
@@ -25,13 +26,11 @@ impl Carried for Header {
 
     ghost decoded = { decode_header };
 
+    #[tactic(auto, unfolding(crate::specs::Padded::padded))]
     fn encode(&self, sector: &mut [u8; 512]) {
         let [t, u] = self.third.to_be_bytes();
         let [a, b, c, d] = self.sectors.to_be_bytes();
-        fill(
-            sector,
-            &[b'F', b'S', b'D', b'V', 1, self.pages, t, u, a, b, c, d],
-        );
+        *sector = padded(&[b'F', b'S', b'D', b'V', 1, self.pages, t, u, a, b, c, d]);
     }
 
     fn decode(sector: &[u8; 512], count: u32) -> Option<Header> {

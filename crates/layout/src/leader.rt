@@ -3,9 +3,10 @@ ghost use Rattle.std.specs.Prelude.{◌≡◌, length};
 ghost use Rattle.layout.specs.Leaders.{encode_leader, decode_leader, leader_of, LeaderFits};
 
 use crate::carried::Carried;
-use crate::fill::{are_zeros, fill};
+use crate::rest::are_zeros;
 use geometry::sizes::LONGEST;
 use names::key::Key;
+use padding::padded;
 
 /// The bytes of a file's key, and the file's length.
 // No Key: a leader may hold bytes that are no key.
@@ -25,7 +26,7 @@ impl Carried for Leader {
     ghost decoded = { λ _. decode_leader };
 
     fn encode(&self, sector: &mut [u8; 512]) {
-        fill(sector, b"FSDL");
+        *sector = padded(b"FSDL");
         sector[4..26].copy_from_slice(&self.key);
         sector[26..30].copy_from_slice(&self.length.to_be_bytes());
     }

@@ -4,8 +4,8 @@
 pub mod anchor;
 pub mod carried;
 pub mod end;
-mod fill;
 pub mod head;
 pub mod header;
 pub mod leader;
+mod rest;
 pub mod tagged;

@@ -30,7 +30,7 @@ impl Key {
     pub fn from_bytes(bytes: &[u8; 22]) -> Option<Key>
         ensures { elim result [ Some k ↦ (is_key bytes.now ≡ true) × (k.bytes ≡ bytes.now) | None ↦ is_key bytes.now ≡ false ] }
     {
-        if is_name(&bytes[..20]) && Version::new(version_of(bytes)).is_some() {
+        if is_name(bytes.first_chunk().unwrap()) && Version::new(version_of(bytes)).is_some() {
             Some(Key { bytes: *bytes })
         } else {
             None

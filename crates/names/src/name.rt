@@ -1,8 +1,9 @@
 // The name of a file.
-ghost use Rattle.std.specs.Prelude.{◌≡◌, ◌≤◌, true, false, length, Some, None, Ok, Err};
+ghost use Rattle.std.specs.Prelude.{◌≡◌, true, false, Some, None, Ok, Err};
 ghost use Rattle.refusal.specs.declared.Refusal.TheVariants.{BadName};
 ghost use Rattle.names.specs.Names.{letter, letters, letters_then_zeros, GoodName, filled, is_name, HasText};
 
+use padding::padded;
 use refusal::Refusal;
 
 /// A name has 1 to 20 characters of A to Z, 0 to 9 and the hyphen. It is stored filled up with zeros to 20 bytes. Every value of it is good.
@@ -20,7 +21,9 @@ impl Name {
         if text.is_empty() || text.len() > 20 || !only_letters(text) {
             return Err(Refusal::BadName);
         }
-        Ok(Name { bytes: fill(text) })
+        Ok(Name {
+            bytes: padded(text),
+        })
     }
 
     /// The name that is stored in these bytes, if they are one: a good text, filled up.
@@ -37,20 +40,10 @@ impl Name {
 }
 
 // Whether these bytes are a stored name.
-pub(crate) fn is_name(bytes: &[u8]) -> bool
+pub(crate) fn is_name(bytes: &[u8; 20]) -> bool
     ensures { result ≡ is_name bytes.now }
 {
-    bytes.len() == 20 && is_letter(bytes[0]) && letters_then_zeros(bytes)
-}
-
-// The text filled up with zeros to 20 bytes.
-fn fill(text: &[u8]) -> [u8; 20]
-    requires { length text.now ≤ 20 }
-    ensures { result ≡ filled text.now }
-{
-    let mut bytes = [0u8; 20];
-    bytes[..text.len()].copy_from_slice(text);
-    bytes
+    is_letter(bytes[0]) && letters_then_zeros(bytes)
 }
 
 // Whether a byte is a character of a name.

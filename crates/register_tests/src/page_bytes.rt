@@ -1,16 +1,14 @@
 // Page images by their bytes, and which of them a change writes.
 ghost use Rattle.std.specs.Prelude.{◌≤◌, length};
 
+use padding::padded;
 use register::replay::{Change, replay};
 use std::alloc::{AllocError, Global};
 use std::process::Abort;
 
 /// A page of these bytes and then zeros.
 pub fn page_with(bytes: &[u8]) -> [u8; 512] {
-    let mut page = [0; 512];
-    let length = bytes.len().min(512);
-    page[0..length].copy_from_slice(&bytes[0..length]);
-    page
+    padded(&bytes[..bytes.len().min(512)])
 }
 
 /// Puts bytes on a page from a place on.

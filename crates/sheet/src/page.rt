@@ -2,20 +2,17 @@
 ghost use Rattle.std.specs.Prelude.{◌≡◌};
 ghost use Rattle.sheet.specs.Pages.{PageOf, text_length};
 
+use padding::padded;
 use refusal::Refusal;
 
 /// The sector that holds a text: its bytes, and then zeros. A text of more than 512 bytes is too long (3).
 pub fn page_of(text: &str) -> Result<[u8; 512], Refusal>
     ensures { PageOf text.now result }
 {
-    let bytes = text.as_bytes();
-    let length = bytes.len();
-    if length > 512 {
+    if text.len() > 512 {
         return Err(Refusal::TooLong);
     }
-    let mut page = [0u8; 512];
-    page[0..length].copy_from_slice(bytes);
-    Ok(page)
+    Ok(padded(text.as_bytes()))
 }
 
 /// How many bytes stand before the first zero.
