@@ -7,12 +7,14 @@
 --     filled                a text filled up with zeros to 20 bytes
 --     is_name               the 20 stored bytes of a name: a letter, then letters, and then zeros only
 --     HasText               the bytes are some good text, filled up
+--     text_of               the text in the stored bytes of a name: those before the first zero
 --     two_bytes             a number in two bytes, the higher first
 --     version_of            the number in the last two bytes of a key
 --     is_key                the 22 bytes of a key: a name, and a version from 1 to 9,999
 --     is_byte_key           a key whose last byte is below 256, as that of every stored key is
-use Rattle.std.specs.Prelude.{◌≡◌, ℕ, ◌+◌, ◌-◌, ◌*◌, ◌/◌, ◌%◌, ◌≤◌, Bool, true, ◌&&◌, ◌||◌, List, [], ◌∷◌, ◌++◌, length, take, drop, replicate, ◌==◌, nat_le, nat_lt, slice_index}
-use Rattle.std.specs.List.{list_all, prefix_len}
+--     key_text              a key as it is printed: the text of its name, a full stop, and its version
+use Rattle.std.specs.Prelude.{◌≡◌, ℕ, ◌+◌, ◌-◌, ◌*◌, ◌/◌, ◌%◌, ◌≤◌, Bool, true, not, ◌&&◌, ◌||◌, List, [], ◌∷◌, ◌++◌, length, take, drop, replicate, codes, decimal, ◌==◌, nat_le, nat_lt, slice_index}
+use Rattle.std.specs.List.{list_all, prefix_len, take_while}
 use Rattle.names.specs.Versions.{highest}
 
 abbrev pub letter : ℕ → Bool
@@ -39,6 +41,9 @@ is_name bytes = length bytes == 20 && letter (slice_index bytes 0) && letters_th
 abbrev pub HasText : List ℕ → Type 0
 HasText bytes = (text : List ℕ) × GoodName text × (bytes ≡ filled text)
 
+abbrev pub text_of : List ℕ → List ℕ
+text_of bytes = take_while (λ b. not (b == 0)) bytes
+
 abbrev pub two_bytes : ℕ → List ℕ
 two_bytes n = n / 256 % 256 ∷ n % 256 ∷ []
 
@@ -50,3 +55,6 @@ is_key key = length key == 22 && is_name (take 20 key) && nat_le 1 (version_of k
 
 abbrev pub is_byte_key : List ℕ → Bool
 is_byte_key key = is_key key && nat_lt (slice_index key 21) 256
+
+abbrev pub key_text : List ℕ → List ℕ
+key_text key = text_of (take 20 key) ++ codes "." ++ decimal (version_of key)

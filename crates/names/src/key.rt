@@ -1,11 +1,12 @@
 // The key of a file: its name and its version.
-ghost use Rattle.std.specs.Prelude.{◌≡◌, true, false, ◌++◌, take, Some, None};
-ghost use Rattle.names.specs.Names.{is_key, is_byte_key, two_bytes, version_of};
+ghost use Rattle.std.specs.Prelude.{◌≡◌, true, false, ◌++◌, take, Some, None, codes, decimal};
+ghost use Rattle.names.specs.Names.{GoodName, filled, is_key, is_byte_key, two_bytes, version_of, key_text};
 ghost use Rattle.names.specs.Orders.{before, Total};
 ghost use Rattle.names.specs.Versions.{InRange};
 
 use crate::name::{Name, is_name};
 use crate::version::Version;
+use std::fmt;
 
 /// The 20 bytes of the name and the version in two bytes, the higher first. Keys are ordered by their bytes, the first that differs decides. Every value of it is good.
 #[derive(Clone, Copy, PartialEq, Eq, PartialOrd, Ord, Debug)]
@@ -23,6 +24,15 @@ impl Key {
         Key {
             bytes: joined(&name.bytes, version.number),
         }
+    }
+
+    /// The key of the name with this text and of the version with this number, if there are such.
+    // An Option, as of `Version::new`: there is no number of a refusal for a version below 1.
+    pub fn of(text: &[u8], version: u16) -> Option<Key>
+        ensures { elim result [ Some k ↦ GoodName text.now × InRange version × (k.bytes ≡ filled text.now ++ two_bytes version) | None ↦ (GoodName text.now → InRange version → ⊥) ] }
+    {
+        let name = Name::new(text).ok()?;
+        Some(Key::new(&name, Version::new(version)?))
     }
 
     /// The key in these bytes, if they are one.
@@ -55,11 +65,23 @@ impl Key {
     }
 
     /// Whether this key comes before another.
+    // Beside the derived order, since its contract carries the law that keys are totally ordered, which callers use.
     pub fn before(&self, other: &Key) -> bool
         ensures value { result ≡ before self.now.bytes other.now.bytes }
         ensures order { Total before }
     {
         self < other
+    }
+}
+
+/// Writes the name, a full stop and the version.
+impl fmt::Display for Key {
+    ghost output = { λ key. Some (key_text key.bytes) };
+
+    fn fmt<W: fmt::Write>(&self, f: &mut fmt::Formatter<W>) -> fmt::Result {
+        let name = self.name();
+        let version = self.version();
+        write!(f, "{name}.{version}")
     }
 }
 

@@ -1,10 +1,13 @@
 // The name of a file.
-ghost use Rattle.std.specs.Prelude.{◌≡◌, true, false, Some, None, Ok, Err};
+ghost use Rattle.std.specs.Prelude.{◌≡◌, ◌≤◌, ◌==◌, true, false, Some, None, Ok, Err};
+ghost use Rattle.std.specs.Fmt.{padded};
+ghost use Rattle.std.specs.List.{position_or_len};
 ghost use Rattle.refusal.specs.declared.Refusal.TheVariants.{BadName};
-ghost use Rattle.names.specs.Names.{letter, letters, letters_then_zeros, GoodName, filled, is_name, HasText};
+ghost use Rattle.names.specs.Names.{letter, letters, letters_then_zeros, GoodName, filled, is_name, HasText, text_of};
 
 use padding::padded;
 use refusal::Refusal;
+use std::{fmt, str};
 
 /// A name has 1 to 20 characters of A to Z, 0 to 9 and the hyphen. It is stored filled up with zeros to 20 bytes. Every value of it is good.
 #[derive(Clone, Copy, PartialEq, Eq, PartialOrd, Ord, Debug)]
@@ -37,6 +40,26 @@ impl Name {
             None
         }
     }
+
+    /// The text of the name: the bytes before the first zero.
+    pub fn text(&self) -> &str
+        ensures value { result.now ≡ text_of self.now.bytes }
+        ensures good { GoodName result.now }
+        ensures whole { self.now.bytes ≡ filled result.now }
+    {
+        str::from_utf8(&self.bytes[..text_length(&self.bytes)]).unwrap()
+    }
+}
+
+/// Writes the text.
+impl fmt::Display for Name {
+    ghost output = { λ name. Some (text_of name.bytes) };
+
+    ghost styled_output = { λ name spec. Some (padded spec (text_of name.bytes)) };
+
+    fn fmt<W: fmt::Write>(&self, f: &mut fmt::Formatter<W>) -> fmt::Result {
+        f.pad(self.text())
+    }
 }
 
 // Whether these bytes are a stored name.
@@ -44,6 +67,14 @@ pub(crate) fn is_name(bytes: &[u8; 20]) -> bool
     ensures { result ≡ is_name bytes.now }
 {
     is_letter(bytes[0]) && letters_then_zeros(bytes)
+}
+
+// How many bytes stand before the first zero.
+fn text_length(bytes: &[u8; 20]) -> usize
+    ensures value { result ≡ position_or_len (λ b. b == 0) bytes.now }
+    ensures within { result ≤ 20 }
+{
+    bytes.iter().take_while(|byte| **byte != 0).count()
 }
 
 // Whether a byte is a character of a name.
