@@ -1,6 +1,9 @@
 // The three thirds of the log.
-ghost use Rattle.std.specs.Prelude.{◌≡◌, Some, None, MatchResult};
+ghost use Rattle.std.specs.Prelude.{◌≡◌, ◌++◌, Some, None, MatchResult, codes, decimal};
 ghost use Rattle.geometry.specs.Thirds.{number_of, third_of, next_of};
+
+use std::error::Error;
+use std::fmt;
 
 /// One of the thirds that the log is written in, in turn.
 #[derive(Clone, Copy, PartialEq, Eq, Debug)]
@@ -13,6 +16,18 @@ pub enum Third {
 /// A number that no third has.
 #[derive(Clone, Copy, PartialEq, Eq, Debug)]
 pub struct NoSuchThird(pub u8);
+
+/// Writes that there is no third of this number.
+impl fmt::Display for NoSuchThird {
+    ghost output = { λ error. Some (codes "no third " ++ decimal error.0) };
+
+    fn fmt<W: fmt::Write>(&self, f: &mut fmt::Formatter<W>) -> fmt::Result {
+        let number = self.0;
+        write!(f, "no third {number}")
+    }
+}
+
+impl Error for NoSuchThird {}
 
 impl From<Third> for u8 {
     ghost from_gives = { λ third number. number ≡ number_of third };
