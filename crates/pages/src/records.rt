@@ -1,9 +1,7 @@
 // The records of a register: the items of its root, and the entries of its leaves.
 ghost use Rattle.std.specs.Prelude.{◌≡◌, ◌+◌, ◌≤◌, length, take, drop};
-ghost use Rattle.names.specs.Orders.{before};
 ghost use Rattle.pages.specs.Records.{item_bytes, item_of, ItemFit, entry_bytes, entry_of, EntryFit};
 ghost use Rattle.pages.specs.Fields.{item-long, item_back, item-fits, entry-long, entry-back, entry-fits};
-ghost use Rattle.names.proofs.ByteOrder.{keys-ordered};
 
 use crate::stored::Stored;
 use rows::keyed::Keyed;
@@ -34,34 +32,22 @@ pub struct Entry {
 }
 
 impl Keyed for Item {
+    type Key = [u8; 22];
+
     ghost key = { λ i. i.separator };
-
-    ghost before = { before };
-
-    ghost total = { keys-ordered };
 
     fn key(&self) -> [u8; 22] {
         self.separator
     }
-
-    fn comes_before(first: &[u8; 22], second: &[u8; 22]) -> bool {
-        key_before(first, second)
-    }
 }
 
 impl Keyed for Entry {
+    type Key = [u8; 22];
+
     ghost key = { λ e. e.key };
-
-    ghost before = { before };
-
-    ghost total = { keys-ordered };
 
     fn key(&self) -> [u8; 22] {
         self.key
-    }
-
-    fn comes_before(first: &[u8; 22], second: &[u8; 22]) -> bool {
-        key_before(first, second)
     }
 }
 
@@ -126,11 +112,4 @@ impl Stored for Entry {
             length: u32::from_be_bytes(bytes_at(buf, 26)),
         }
     }
-}
-
-// Whether one key comes before another, by their bytes. `Keyed` cannot provide this: its impls may name another order.
-fn key_before(first: &[u8; 22], second: &[u8; 22]) -> bool
-    ensures { result ≡ before first.now second.now }
-{
-    *first < *second
 }

@@ -17,7 +17,6 @@ use names::version::HIGHEST;
 use pages::page::read_row;
 use pages::paged::{Paged, image_at};
 use pages::records::{Entry, Item};
-use rows::keyed::Keyed;
 use rows::row::Row;
 
 /// Pages that are lent and hold a register.
@@ -79,7 +78,7 @@ impl<'a, P: Paged> Lookup<'a, P> {
             return None;
         }
         let last = seat.leaf.as_slice()[seat.place - 1];
-        if Entry::comes_before(&last.key, &key.bytes) {
+        if last.key < key.bytes {
             return None;
         }
         Some(last)

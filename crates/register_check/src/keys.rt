@@ -1,7 +1,7 @@
 // Whether bytes are a key, and whether the keys of records rise.
 ghost use Rattle.std.specs.Prelude.{◌≡◌};
 ghost use Rattle.names.specs.Names.{is_byte_key};
-ghost use Rattle.register_check.specs.Chains.{chained};
+ghost use Rattle.register_check.specs.Chains.{rising};
 
 use names::key::Key;
 use rows::keyed::Keyed;
@@ -14,8 +14,8 @@ pub(crate) fn is_key(bytes: &[u8; 22]) -> bool
 }
 
 // Whether the key of each record comes before that of the next.
-pub(crate) fn rising<R: Keyed>(records: &[R]) -> bool
-    ensures { result ≡ chained (λ x y. R.Keyed.before (R.Keyed.key x) (R.Keyed.key y)) records.now }
+pub(crate) fn rising<R: Keyed<Key = [u8; 22]>>(records: &[R]) -> bool
+    ensures { result ≡ rising R.key records.now }
 {
-    records.is_sorted_by(|x, y| R::comes_before(&x.key(), &y.key()))
+    records.is_sorted_by(|x, y| x.key() < y.key())
 }

@@ -1,13 +1,13 @@
 // Whether a leaf of a register is right.
-ghost use Rattle.std.specs.Prelude.{◌≡◌};
+ghost use Rattle.std.specs.Prelude.{◌≡◌, not};
 ghost use Rattle.std.specs.List.{list_all};
+ghost use Rattle.names.specs.Orders.{before};
 ghost use Rattle.register_check.specs.Leaves.{under, entry_right, leaf_right};
 
 use crate::extents::Area;
 use crate::keys::{is_key, rising};
 use pages::page::formed;
 use pages::records::Entry;
-use rows::keyed::Keyed;
 use rows::row::Row;
 
 /// What bounds the entries of a leaf: its separator, that of the next leaf if there is one, and the sectors for files.
@@ -19,12 +19,19 @@ pub(crate) struct Limits {
 }
 
 impl Limits {
+    // Whether a key is not below the separator.
+    fn reaches(&self, key: &[u8; 22]) -> bool
+        ensures { result ≡ not (before key.now self.now.separator) }
+    {
+        *key >= self.separator
+    }
+
     // Whether a key is below the next separator, if there is one.
     fn under(&self, key: &[u8; 22]) -> bool
         ensures { result ≡ under self.now.next key.now }
     {
         match &self.next {
-            Some(next) => Entry::comes_before(key, next),
+            Some(next) => *key < *next,
             None => true,
         }
     }
@@ -34,7 +41,7 @@ impl Limits {
         ensures { result ≡ entry_right self.now entry.now }
     {
         is_key(&entry.key)
-            && !Entry::comes_before(&entry.key, &self.separator)
+            && self.reaches(&entry.key)
             && self.under(&entry.key)
             && self.area.holds(entry)
     }

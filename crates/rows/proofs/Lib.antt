@@ -1,2 +1,3 @@
+pub mod KeyOrder
 pub mod LookUps
 pub mod Sorting

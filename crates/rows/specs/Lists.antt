@@ -1,4 +1,5 @@
 -- Plain lists of entries in the order of their keys: `key` tells an entry's key, and `lt` whether one key comes before another.
+--     comes_before     that test, where an order compares two keys
 --     up_to            how many keys, from the first on, are not above k
 --     insert           a list with one entry more, before the first whose key is above its own
 --     remove           a list without the entry of a key
@@ -11,6 +12,11 @@
 --     put_at, without  a list with x put in at the place i, and without what stands there
 use Rattle.std.specs.Prelude.{◌≡◌, ℕ, suc, Bool, true, cond, List, [], ◌∷◌, ◌++◌, take, drop, Some, None, Option}
 use Rattle.std.specs.List.{AllByRecursion}
+use Rattle.std.specs.declared.cmp.Ordering.{Ordering}
+use Rattle.std.specs.Ordering.{is_lt}
+
+abbrev pub comes_before : {K : Type 0} → (K → K → Ordering) → K → K → Bool
+comes_before cmp x y = is_lt (cmp x y)
 
 module _ {K : Type 0} (lt : K → K → Bool) where
   abbrev pub up_to : K → List K → ℕ

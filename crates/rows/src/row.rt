@@ -1,6 +1,6 @@
 // A row of records, and the same calls on records that are lent.
 ghost use Rattle.std.specs.Prelude.{◌≡◌, ◌+◌, ◌-◌, ◌<◌, ◌≤◌, List, map, length, take, slice_set};
-ghost use Rattle.rows.specs.Lists.{up_to, put_at, without};
+ghost use Rattle.rows.specs.Lists.{comes_before, up_to, put_at, without};
 
 use crate::keyed::Keyed;
 use std::marker::Model;
@@ -35,7 +35,7 @@ impl<R, const N: usize> Row<R, N> {
         ensures value { result ≡ length self.now }
         ensures within { length self.now ≤ N }
     {
-        self.as_slice().len()
+        self.count
     }
 
     /// The records.
@@ -79,9 +79,9 @@ impl<R: Copy, const N: usize> Row<R, N> {
 
 impl<R: Keyed, const N: usize> Row<R, N> {
     /// How many records have a key that is not above `wanted`: the last of them is where `wanted` would be found, and the next one is the lowest above it.
-    pub fn find(&self, wanted: &[u8; 22]) -> usize
+    pub fn find(&self, wanted: &R::Key) -> usize
         ensures bound { result ≤ length self.now }
-        ensures value { result ≡ up_to R.before wanted.now (map R.key self.now) }
+        ensures value { result ≡ up_to (comes_before R.Key.cmp) wanted.now (map R.key self.now) }
     {
         place_in(&self.records, self.count, wanted)
     }
@@ -90,14 +90,15 @@ impl<R: Keyed, const N: usize> Row<R, N> {
 // The next three take records and their count apart: they are lent, and the memory of a volume is fixed.
 
 /// How many of the first `count` records have a key that is not above `wanted`, from the first on.
-pub fn place_in<R: Keyed>(records: &[R], count: usize, wanted: &[u8; 22]) -> usize
+pub fn place_in<R: Keyed>(records: &[R], count: usize, wanted: &R::Key) -> usize
     requires { count ≤ length records.now }
     ensures bound { result ≤ count }
-    ensures value { result ≡ up_to R.before wanted.now (map R.key (take count records.now)) }
+    ensures value { result ≡ up_to (comes_before R.Key.cmp) wanted.now (map R.key (take count records.now)) }
 {
+    // From the front: `partition_point` and `binary_search_by` answer this only where keys rise, which nothing asks of these records.
     records[..count]
         .iter()
-        .position(|r| R::comes_before(wanted, &r.key()))
+        .position(|r| *wanted < r.key())
         .unwrap_or(count)
 }
 

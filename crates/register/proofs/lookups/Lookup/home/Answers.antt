@@ -3,20 +3,21 @@ use Rattle.pages.specs.Bytes.{records_of}
 use Rattle.pages.specs.Records.{item_of}
 use Rattle.names.specs.Orders.{before}
 use Rattle.rows.specs.Lists.{up_to}
+use Rattle.rows.proofs.KeyOrder.{up_to-before}
 use Rattle.register.specs.Images.{key_of, no_item, leaf_of}
 use Rattle.register.proofs.SeatFound.{seat-found}
 use Rattle.register.proofs.lookups.Lookup.home.Goals as goal
 
 pub overflow_sub-at : goal.overflow_sub-at
-overflow_sub-at g c = let f = seat-found c.args.self.now.kept c.told-key (c.read_row-items.ensures ∙ ap (records_of item_of 24 20) c.image_at.ensures) c.find-at.ensures.value in f.some
+overflow_sub-at g c = let f = seat-found c.args.self.now.kept c.told-key (c.read_row-items.ensures ∙ ap (records_of item_of 24 20) c.image_at.ensures) (c.find-at.ensures.value ∙ up_to-before _ _) in f.some
 
 pub leaf-leaf-requires : goal.leaf-leaf-requires
-leaf-leaf-requires g c = let f = seat-found c.args.self.now.kept c.told-key (c.read_row-items.ensures ∙ ap (records_of item_of 24 20) c.image_at.ensures) c.find-at.ensures.value in rw c.as_slice.ensures.records f.to
+leaf-leaf-requires g c = let f = seat-found c.args.self.now.kept c.told-key (c.read_row-items.ensures ∙ ap (records_of item_of 24 20) c.image_at.ensures) (c.find-at.ensures.value ∙ up_to-before _ _) in rw c.as_slice.ensures.records f.to
 
 pub returns-clause-seated : goal.returns-clause-seated
 returns-clause-seated g c =
     let held = c.read_row-items.ensures ∙ ap (records_of item_of 24 20) c.image_at.ensures in
-    let f = seat-found c.args.self.now.kept c.told-key held c.find-at.ensures.value in
+    let f = seat-found c.args.self.now.kept c.told-key held (c.find-at.ensures.value ∙ up_to-before _ _) in
     let at = c.find-at.result - 1 in
     let read = ap (λ is. (get_or is at no_item).page) c.as_slice.ensures.records in
     record {
@@ -30,6 +31,6 @@ returns-clause-seated g c =
       small = c.args.self.now.kept.most;
       leaf = c.leaf-leaf.ensures;
       most = omega (arith, ap length c.leaf-leaf.ensures, ap (λ p. length (leaf_of (map g.P.Paged.image c.args.self.now.pages.now) p)) read, f.most);
-      place = c.find-place.ensures.value ∙ ap (λ es. up_to before c.args.key.now (map key_of es)) c.leaf-leaf.ensures;
+      place = c.find-place.ensures.value ∙ up_to-before _ _ ∙ ap (λ es. up_to before c.args.key.now (map key_of es)) c.leaf-leaf.ensures;
       inside = c.find-place.ensures.bound;
     }
