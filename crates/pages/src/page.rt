@@ -4,7 +4,7 @@ ghost use Rattle.std.specs.Bool.{Decides};
 ghost use Rattle.std.specs.List.{flat_map};
 ghost use Rattle.layout.specs.Padded.{Decodes};
 ghost use Rattle.pages.specs.Bytes.{Room, Holds, values, page_of, records_of};
-ghost use Rattle.pages.specs.Decoding.{Few, Decoded};
+ghost use Rattle.pages.specs.Decoding.{Few, told, Decoded, RowDecoded};
 
 use crate::stored::Stored;
 use rows::row::Row;
@@ -70,6 +70,21 @@ pub fn formed<R: Stored>(letter: u8, records: &[R], page: &[u8; 512]) -> bool
     *page == made
 }
 
+/// Reads the records of a page, as many as there are places, and says how many there are, if the page is just what they make under a letter.
+pub fn decode_page<R: Stored + Copy>(letter: u8, page: &[u8; 512], out: &mut [R]) -> Option<usize>
+    requires { Holds R.WIDE (length out.old) }
+    ensures value { Decoded R.fit R.bytes R.value R.WIDE letter (length out.old) page.now out.new result }
+    ensures law { Decodes (Few R.fit (length out.old)) (page_of R.bytes letter) page.now (told out.new result) }
+    ensures read { out.new ≡ records_of R.value R.WIDE (length out.old) page.now ++ drop (min (slice_index page.now 2) (length out.old)) out.old }
+{
+    let n = read_page(page, out.len(), out);
+    if formed(letter, &out[..n], page) {
+        Some(n)
+    } else {
+        None
+    }
+}
+
 /// The records of a page, at most so many.
 pub fn read_row<R: Stored + Copy + Default, const N: usize>(
     page: &[u8; 512],
@@ -85,18 +100,15 @@ pub fn read_row<R: Stored + Copy + Default, const N: usize>(
 }
 
 /// The records of a page, if it is just what they make under a letter.
-pub fn decode_page<R: Stored + Copy + Default, const N: usize>(
+pub fn decode_row<R: Stored + Copy + Default, const N: usize>(
     letter: u8,
     page: &[u8; 512],
 ) -> Option<Row<R, N>>
     requires { Holds R.WIDE N }
-    ensures value { Decoded R.fit R.bytes R.value R.WIDE letter N page.now result }
+    ensures value { RowDecoded R.fit R.bytes R.value R.WIDE letter N page.now result }
     ensures law { Decodes (Few R.fit N) (page_of R.bytes letter) page.now result }
 {
-    let row = read_row::<R, N>(page, N);
-    if formed(letter, row.as_slice(), page) {
-        Some(row)
-    } else {
-        None
-    }
+    let mut records = [R::default(); N];
+    let count = decode_page(letter, page, &mut records)?;
+    Some(Row::of(records, count))
 }

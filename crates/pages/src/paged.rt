@@ -15,6 +15,7 @@ pub trait Paged {
     ghost holds: { (page : Self) (bytes : List ℕ) → image (written page bytes) ≡ bytes };
 
     /// A copy of the image.
+    // It is not lent: what keeps its image in other bytes can answer it too.
     fn image(&self) -> [u8; 512]
         ensures { result ≡ image self.now };
 

@@ -6,6 +6,18 @@ ghost use Rattle.pages.specs.Fields.{item-long, item_back, item-fits, entry-long
 use crate::stored::Stored;
 use rows::keyed::Keyed;
 
+/// The letter of the root.
+pub const ROOT: u8 = b'R';
+
+/// The letter of a leaf.
+pub const LEAF: u8 = b'L';
+
+/// The most items of the root.
+pub const MOST_ITEMS: usize = 20;
+
+/// The most entries of a leaf.
+pub const MOST_ENTRIES: usize = 15;
+
 // The bytes of a buffer from a place on, as many as are asked for.
 fn bytes_at<const N: usize>(buf: &[u8], at: usize) -> [u8; N]
     requires { at + N ≤ length buf.now }
@@ -15,6 +27,8 @@ fn bytes_at<const N: usize>(buf: &[u8], at: usize) -> [u8; N]
     bytes.copy_from_slice(&buf[at..at + N]);
     bytes
 }
+
+// A separator and a key are bytes here. A `Key` is too little: a page may hold bytes that are no key, and the check of a register has to read them. A `Bound` is no plainer: each clause would name its bytes a field deeper, and of all that a `Bound` has only its order is used, which arrays have.
 
 /// An item of the root: the keys from its separator on, up to that of the next item, belong to its page.
 #[derive(Clone, Copy, Debug, Default, PartialEq, Eq)]

@@ -1,7 +1,7 @@
 // How many records a page may say that it has.
 use crate::kinds::{entries_on, items_on};
 use pages::page::write_page;
-use pages::records::{Entry, Item};
+use pages::records::{Entry, Item, LEAF, MOST_ENTRIES, MOST_ITEMS, ROOT};
 use std::process::Abort;
 
 // An entry of zeros but for its length.
@@ -31,7 +31,7 @@ fn tells<F: Fn(&[u8; 512]) -> Option<usize>>(
 #[test]
 fn of_leaves(rt: HostRuntime) {
     let mut page = [0; 512];
-    write_page(b'L', &[entry(); 15], &mut page);
+    write_page(LEAF, &[entry(); MOST_ENTRIES], &mut page);
     let counts = [
         (15, Some(15)),
         (0, None),
@@ -51,7 +51,7 @@ fn of_roots(rt: HostRuntime) {
         page: 1,
         ..Item::default()
     };
-    write_page(b'R', &[item; 20], &mut page);
+    write_page(ROOT, &[item; MOST_ITEMS], &mut page);
     let counts = [
         (20, Some(20)),
         (0, None),
@@ -67,7 +67,7 @@ fn of_roots(rt: HostRuntime) {
 #[test]
 fn of_zeros(rt: HostRuntime) {
     let mut page = [0; 512];
-    write_page(b'L', &[entry(); 2], &mut page);
+    write_page(LEAF, &[entry(); 2], &mut page);
     let counts = [
         (1, None),
         (2, Some(2)),

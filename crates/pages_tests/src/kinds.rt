@@ -1,19 +1,20 @@
 // The two kinds of page, how many records a page is, and pages by their bytes.
 use pages::page::decode_page;
-use pages::records::{Entry, Item};
+use pages::records::{Entry, Item, LEAF, MOST_ENTRIES, MOST_ITEMS, ROOT};
 use std::process::Abort;
 
 /// How many items a page is the root of, if it is one.
 pub fn items_on(page: &[u8; 512]) -> Option<usize> {
-    decode_page::<Item, 20>(b'R', page).map(|items| items.len())
+    decode_page(ROOT, page, &mut [Item::default(); MOST_ITEMS])
 }
 
 /// How many entries a page is the leaf of, if it is one.
 pub fn entries_on(page: &[u8; 512]) -> Option<usize> {
-    decode_page::<Entry, 15>(b'L', page).map(|entries| entries.len())
+    decode_page(LEAF, page, &mut [Entry::default(); MOST_ENTRIES])
 }
 
 /// Puts bytes on a page from a place on.
+// The register's tests have the same function: one for both would be library code, which may not abort, and each caller would have to say what it does where the bytes do not fit.
 pub fn put(rt: &impl Abort, page: &mut [u8; 512], at: usize, bytes: &[u8]) {
     assert!(rt; at <= 512);
     assert!(rt; bytes.len() <= 512 - at);

@@ -1,7 +1,7 @@
 // A worked leaf of two entries: its bytes both ways, and which of them have no use.
 use crate::kinds::{are_fixed, entries_on, items_on, put};
-use pages::page::{decode_page, formed, write_page};
-use pages::records::Entry;
+use pages::page::{decode_page, decode_row, formed, write_page};
+use pages::records::{Entry, LEAF, MOST_ENTRIES, ROOT};
 use std::process::Abort;
 
 const FIRST: Entry = Entry {
@@ -38,20 +38,23 @@ fn leaf(rt: &impl Abort) -> [u8; 512] {
 #[test]
 fn both_ways(rt: HostRuntime) {
     let mut page = [255; 512];
-    write_page(b'L', &[FIRST, SECOND], &mut page);
+    write_page(LEAF, &[FIRST, SECOND], &mut page);
     assert!(rt; page == leaf(&rt));
-    let entries = decode_page::<Entry, 15>(b'L', &page);
+    let mut out = [Entry::default(); MOST_ENTRIES];
+    assert_eq!(rt; decode_page(LEAF, &page, &mut out), Some(2));
+    assert!(rt; out[..2] == [FIRST, SECOND]);
+    let entries = decode_row::<Entry, MOST_ENTRIES>(LEAF, &page);
     assert!(rt; entries.is_some_and(|entries| entries.as_slice() == [FIRST, SECOND].as_slice()));
 }
 
 #[test]
 fn made_of(rt: HostRuntime) {
     let page = leaf(&rt);
-    assert!(rt; formed(b'L', &[FIRST, SECOND], &page));
-    assert!(rt; !formed(b'L', &[SECOND, FIRST], &page));
-    assert!(rt; !formed(b'L', &[FIRST], &page));
-    assert!(rt; !formed(b'L', &[FIRST, SECOND, Entry::default()], &page));
-    assert!(rt; !formed(b'R', &[FIRST, SECOND], &page));
+    assert!(rt; formed(LEAF, &[FIRST, SECOND], &page));
+    assert!(rt; !formed(LEAF, &[SECOND, FIRST], &page));
+    assert!(rt; !formed(LEAF, &[FIRST], &page));
+    assert!(rt; !formed(LEAF, &[FIRST, SECOND, Entry::default()], &page));
+    assert!(rt; !formed(ROOT, &[FIRST, SECOND], &page));
 }
 
 #[test]

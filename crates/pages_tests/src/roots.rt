@@ -1,7 +1,7 @@
 // A worked root of two items: its bytes both ways, and which of them have no use.
 use crate::kinds::{are_fixed, entries_on, put};
-use pages::page::{decode_page, write_page};
-use pages::records::Item;
+use pages::page::{decode_page, decode_row, write_page};
+use pages::records::{Entry, Item, LEAF, MOST_ENTRIES, MOST_ITEMS, ROOT};
 use std::process::Abort;
 
 const FIRST: Item = Item {
@@ -31,11 +31,15 @@ fn root(rt: &impl Abort) -> [u8; 512] {
 #[test]
 fn both_ways(rt: HostRuntime) {
     let mut page = [255; 512];
-    write_page(b'R', &[FIRST, SECOND], &mut page);
+    write_page(ROOT, &[FIRST, SECOND], &mut page);
     assert!(rt; page == root(&rt));
-    let items = decode_page::<Item, 20>(b'R', &page);
+    let mut out = [Item::default(); MOST_ITEMS];
+    assert_eq!(rt; decode_page(ROOT, &page, &mut out), Some(2));
+    assert!(rt; out[..2] == [FIRST, SECOND]);
+    let items = decode_row::<Item, MOST_ITEMS>(ROOT, &page);
     assert!(rt; items.is_some_and(|items| items.as_slice() == [FIRST, SECOND].as_slice()));
     assert_eq!(rt; entries_on(&page), None);
+    assert!(rt; decode_row::<Entry, MOST_ENTRIES>(LEAF, &page).is_none());
 }
 
 #[test]

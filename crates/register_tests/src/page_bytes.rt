@@ -12,6 +12,7 @@ pub fn page_with(bytes: &[u8]) -> [u8; 512] {
 }
 
 /// Puts bytes on a page from a place on.
+// The tests of pages have the same function: one for both would be library code, which may not abort, and each caller would have to say what it does where the bytes do not fit.
 pub fn put_bytes(rt: &impl Abort, page: &mut [u8; 512], at: usize, bytes: &[u8]) {
     assert!(rt; at <= 512);
     assert!(rt; bytes.len() <= 512 - at);
