@@ -1,10 +1,9 @@
 -- Changes, one after another, against what their list says.
 --     remove-none      taking out a key that is not there leaves the entries as they are
 --     taken, kept      what carrying out a change leaves: a key's entry taken out or none, and a key to be put in that is there
---     told-push        a list with one change more
 --     refused, granted     what carrying out a change leaves, by whether it was refused
 --     stopped              a change that is refused is refused on the same pages
-use Rattle.std.proofs.Common.{◌≡◌, ℕ, true, false, cond, is_some, List, [], ◌∷◌, ◌++◌, map, length, Some, None, Ok, Err, Option, Result, sym, refl, ap, ◌∙◌, subst, arith}
+use Rattle.std.proofs.Common.{◌≡◌, ℕ, true, false, cond, is_some, List, [], ◌∷◌, map, length, Some, None, Ok, Err, Option, Result, sym, refl, ap, ◌∙◌, subst, arith}
 use Rattle.std.proofs.lemmas.Bool.{cases_Bool}
 use Rattle.std.specs.Result.{is_err}
 use Rattle.refusal.specs.declared.Refusal.{Refusal}
@@ -16,7 +15,7 @@ use Rattle.pages.specs.declared.records.Entry.{Entry}
 use Rattle.register.specs.Images.{key_of, entry, entries_of, put_writes, take_writes}
 use Rattle.register.specs.Registers.{IsRegister}
 use Rattle.register.specs.Calls.{TakesOut}
-use Rattle.register.specs.Changes.{changed, told, Refuses, Carries}
+use Rattle.register.specs.Changes.{changed, Refuses, Carries}
 use Rattle.register.specs.declared.replay.Change.{Change}
 use Rattle.register.specs.declared.replay.Change.TheVariants.{Put, Take}
 
@@ -51,11 +50,6 @@ module _ {X : Type 0} (image : X → List ℕ) (written : X → List ℕ → X) 
           ∙ ap (λ b. cond b (entries_of (map image pages)) (insert key_of before (entry key.bytes start size) (entries_of (map image pages)))) (sym there),
       same ∙ nothing ∙ ap (λ b. wrote written (cond b [] (put_writes (length pages) (entry key.bytes start size) (map image pages))) pages) (sym there),
     )
-
-pub told-push : (cs : List Change) (c : Change) (es : List Entry) → told (cs ++ c ∷ []) es ≡ changed c (told cs es)
-unfolding told
-told-push [] c es = refl
-told-push (b ∷ cs) c es = told-push cs c (changed b es)
 
 module _ {X : Type 0} (image : X → List ℕ) (written : X → List ℕ → X) (c : Change) (pages after : List X) where
   pub refused : (r : Result (Unit {0}) Refusal) → Carries image written c pages r after → is_err r ≡ true → Refuses (length pages) (map image pages) c × (after ≡ pages)

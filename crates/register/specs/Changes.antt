@@ -5,7 +5,8 @@
 --     change_writes    what carrying out a change writes: nothing if it changes nothing
 --     Carries      what carrying out a change leaves
 --     Stops        the changes from the n-th on were not carried out, since the register refuses that one
-use Rattle.std.specs.Prelude.{◌≡◌, ℕ, true, cond, is_some, List, [], ◌∷◌, map, length, slice_get, Some, None, Ok, Err, Result}
+use Rattle.std.specs.Prelude.{◌≡◌, ℕ, true, cond, is_some, List, [], map, length, slice_get, Some, None, Ok, Err, Result}
+use Rattle.std.specs.List.{fold}
 use Rattle.refusal.specs.declared.Refusal.{Refusal}
 use Rattle.refusal.specs.declared.Refusal.TheVariants.{RegisterFull}
 use Rattle.names.specs.Orders.{before}
@@ -22,8 +23,7 @@ changed (Put key start length) es = cond (is_some (look_up key_of before key.byt
 changed (Take key) es = remove key_of before key.bytes es
 
 unfoldable pub told : List Change → List Entry → List Entry
-told [] es = es
-told (c ∷ cs) es = told cs (changed c es)
+told cs es = fold (λ es c. changed c es) es cs
 
 abbrev pub Refuses : ℕ → List (List ℕ) → Change → Type 0
 Refuses P images (Put key start length) = (look_up key_of before key.bytes (entries_of images) ≡ None) × (is_full P images key.bytes ≡ true)

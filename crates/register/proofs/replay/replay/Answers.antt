@@ -1,10 +1,11 @@
 use Rattle.std.proofs.Common.{[], ◌∷◌, ◌++◌, length, take, sym, refl, ap, ◌∙◌, rules, arith}
 use Rattle.std.proofs.lemmas.List.{length-map, take_more}
+use Rattle.std.proofs.lemmas.List.Sums.{fold_push}
 use Rattle.std.proofs.lemmas.Option.{get_or_from_slice_get, slice_get_within}
 use Rattle.register.specs.Changes.{changed, told}
 use Rattle.register.specs.declared.replay.Change.{Change}
 use Rattle.register.proofs.Saying.{register-sorted, looked-up}
-use Rattle.register.proofs.Telling.{told-push, refused, granted, stopped}
+use Rattle.register.proofs.Telling.{refused, granted, stopped}
 use Rattle.register.proofs.replay.replay.Goals as goal
 
 pub loop-i-init : goal.loop-i-init
@@ -18,6 +19,7 @@ returns-then-is_err-clause-full g c = λ other at.
     stopped g.P.Paged.image (search rules) h.1 c.loop-i.invariant.long (c.index-changes-i.is ∙ get_or_from_slice_get c.args.changes.now c.loop-i.i other change at) h.0
 
 pub loop-i-preserved : goal.loop-i-preserved
+unfolding told
 loop-i-preserved g c =
     let changes = c.args.changes.now in
     let i = c.loop-i.i in
@@ -27,7 +29,7 @@ loop-i-preserved g c =
     let h = granted g.P.Paged.image g.P.Paged.written change c.loop-i.register.pages.now after c.carry_out.result c.carry_out.ensures.done (sym c.if-is_err.ensures.value) in
     let more = take_more changes i change c.loop-i-test.true ∙ ap (λ (x : Change). take i changes ++ x ∷ []) (sym c.index-changes-i.is) in
     record {
-      law = h.1 ∙ ap (changed change) v.law ∙ sym (ap (λ cs. told cs []) more ∙ told-push (take i changes) change []);
+      law = h.1 ∙ ap (changed change) v.law ∙ sym (ap (λ cs. told cs []) more ∙ fold_push (λ es c. changed c es) [] (take i changes) change);
       long = sym (length-map after g.P.Paged.image) ∙ h.0.all ∙ v.long;
       named = c.carry_out.ensures.named ∙ v.named;
     }
