@@ -1,15 +1,30 @@
 -- What is known of an entry that was found.
+--     kept, kept-is    an entry, if it passes a test, and that this is what `filter` answers
 --     Found        what holds of the entry, if there is one
 --     either       of one entry or else another
 --     both         of each entry two facts
 --     last-there       the highest entry not above a key is one of the list, and not above the key
-use Rattle.std.proofs.Common.{◌≡◌, false, List, [], ◌∷◌, ℕ, Some, None, Option}
+use Rattle.std.proofs.Common.{◌≡◌, ℕ, Bool, true, false, cond, List, [], ◌∷◌, Some, None, Option, refl, ap, ◌∙◌}
+use Rattle.std.specs.Bool.{then_some}
+use Rattle.std.specs.Option.{MatchOption}
 use Rattle.std.specs.List.{AllByRecursion}
 use Rattle.std.proofs.lemmas.Bool.{cond_both}
 use Rattle.names.specs.Orders.{before}
 use Rattle.rows.specs.Lists.{last_up_to, or_else}
 use Rattle.pages.specs.declared.records.Entry.{Entry}
 use Rattle.register.specs.Images.{key_of}
+
+abbrev pub kept : (Entry → Bool) → Option Entry → Option Entry
+kept p None = None
+kept p (Some e) = cond (p e) (Some e) None
+
+some-if : (b : Bool) (e : Entry) → then_some b e ≡ cond b (Some e) None
+some-if true e = refl
+some-if false e = refl
+
+pub kept-is : (p : Entry → Bool) (o r : Option Entry) (R : Entry → Bool → Type 0) → MatchOption o (r ≡ None) (λ e. (b : Bool) × R e b × (r ≡ then_some b e)) → ((e : Entry) (b : Bool) → R e b → b ≡ p e) → r ≡ kept p o
+kept-is p None r R h f = h
+kept-is p (Some e) r R h f = h.2 ∙ some-if h.0 e ∙ ap (λ b. cond b (Some e) None) (f e h.0 h.1)
 
 abbrev pub Found : (Entry → Type 0) → Option Entry → Type 0
 Found P None = Unit {0}

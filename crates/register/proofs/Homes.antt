@@ -44,6 +44,7 @@ pub record Home (P : ℕ) (images : List (List ℕ)) (k : List ℕ) : Type 0 whe
   pub parts : tree_of images ≡ left ++ leaf ∷ right
   pub found : leaf_at key_of before k first rest ≡ leaf
   pub changed : (f : Node (List ℕ) Entry → Tree) → change key_of before f k first rest ≡ left ++ (f leaf ++ right)
+  pub behind : up_to before k (seps rest) ≡ length left
   pub items : items_of images ≡ items_for (left ++ leaf ∷ right)
   pub some : 1 ≤ up_to before k (map (λ i. i.separator) (items_of images))
   pub place : seat (items_of images) k ≡ length left
@@ -105,6 +106,7 @@ home-known P images k r long = go (tree_of images) refl
           parts = parts;
           found = refl;
           changed = sp.changed;
+          behind = sym sp.at;
           items = items;
           some = omega arith;
           place = place;

@@ -13,7 +13,6 @@ pub mod TakeHome
 pub mod TakeRegister
 pub mod FreshPages
 pub mod FreshImages
-pub mod KeySeats
 pub mod FoundEntries
 pub mod LeafPlaces
 pub mod NextLeaves

@@ -5,12 +5,15 @@
 --     highest-in, highest-stands   the highest version of a name is that of its newest entry, or 0
 --     highest-most         it is at most 9,999
 --     fresh-version        the version after the highest is not there
-use Rattle.std.proofs.Common.{◌≡◌, ℕ, ◌+◌, ◌<◌, ◌≤◌, max, true, false, cond, List, [], ◌∷◌, ◌++◌, length, Some, None, Option, sym, refl, ap, ◌∙◌, subst, arith}
+--     number_or, version-is, at-number     the number of a version, or 0: that of the newest entry, and what holds at it
+use Rattle.std.proofs.Common.{◌≡◌, ℕ, ◌+◌, ◌<◌, ◌≤◌, max, inl, inr, true, false, cond, List, [], ◌∷◌, ◌++◌, length, Some, None, Option, sym, refl, ap, ◌∙◌, subst, arith}
 use Rattle.std.specs.List.{AllByRecursion}
+use Rattle.std.specs.Option.{MatchOption}
 use Rattle.std.proofs.ByRecursion.{All-weaker}
-use Rattle.std.proofs.lemmas.Bool.{cond_both, cases_Bool}
+use Rattle.std.proofs.lemmas.Bool.{cond_both, cases_Bool, cases_eq}
 use Rattle.names.specs.Names.{is_byte_key, two_bytes, version_of}
-use Rattle.names.specs.Versions.{highest}
+use Rattle.names.specs.Versions.{highest, InRange}
+use Rattle.names.specs.declared.version.Version.{Version}
 use Rattle.names.specs.Orders.{before}
 use Rattle.names.proofs.ByteOrder.{keys-ordered}
 use Rattle.names.proofs.Stored.{key-bytes}
@@ -21,14 +24,13 @@ use Rattle.pages.specs.declared.records.Entry.{Entry}
 use Rattle.register.specs.Images.{key_of, tree_of, entries_of}
 use Rattle.register.specs.Registers.{IsRegister}
 use Rattle.register.specs.Names.{has_name, newest_of, highest_version_of}
-use Rattle.register.proofs.FoundEntries.{Found, either, both, last-there}
+use Rattle.register.proofs.FoundEntries.{kept, Found, either, both, last-there}
 use Rattle.register.proofs.ZeroKey.{key-long}
 use Rattle.register.proofs.NamedKeys.{last_key, key-version, last-not-below, named-between, version-rises, made-named, made-version}
 use Rattle.register.proofs.SortedEntries.{entries-sorted}
 
 abbrev pub of_name : List ℕ → Option Entry → Option Entry
-of_name name None = None
-of_name name (Some e) = cond (has_name name e) (Some e) None
+of_name name o = kept (has_name name) o
 
 abbrev pub version_or : Option Entry → ℕ
 version_or None = 0
@@ -120,3 +122,17 @@ module _ (P : ℕ) (name : List ℕ) (images : List (List ℕ)) (r : IsRegister 
 
   pub highest-stands : highest_version_of name (entries_of images) ≡ version_or (newest_of name (entries_of images))
   highest-stands = highest-in name (entries_of images) sorted r.keys (All-weaker (λ e. is_byte_key e.key ≡ true) (λ e. AreBytes e.key) (λ e. key-bytes e.key) (entries_of images) r.keys)
+
+abbrev pub number_or : Option Version → ℕ
+number_or None = 0
+number_or (Some v) = v.number
+
+pub version-is : (h : ℕ) (o : Option Entry) (r : Option Version) (R : Entry → Type 0) → h ≡ version_or o → h ≤ highest → MatchOption o (r ≡ None) R
+    → ((e : Entry) → R e → elim r as (λ _. Type 0) [ Some v ↦ InRange (version_of e.key) × (v.number ≡ version_of e.key) | None ↦ InRange (version_of e.key) → ⊥ ]) → h ≡ number_or r
+version-is h None r R e l m f = e ∙ sym (ap number_or m)
+version-is h (Some x) None R e l m f = elim (cases_eq h 0) [ inl z ↦ z | inr n ↦ absurd (f x m (omega arith, omega arith)) ]
+version-is h (Some x) (Some v) R e l m f = e ∙ sym (f x m).1
+
+pub at-number : (Q : ℕ → Type 0) (r : Option Version) → Q (number_or r) → elim r as (λ _. Type 0) [ Some v ↦ Q v.number | None ↦ Q 0 ]
+at-number Q None q = q
+at-number Q (Some v) q = q

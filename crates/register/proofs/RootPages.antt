@@ -4,7 +4,7 @@
 --     zero_first-made  the first separator set to zeros
 --     split-made       what a split writes, one page after another
 use Rattle.std.proofs.Common.{◌≡◌, ℕ, zero, suc, ◌+◌, ◌-◌, ◌<◌, ◌≤◌, inl, inr, true, false, cond, List, [], ◌∷◌, length, get_or, take, drop, set, Some, None, Option, sym, refl, ap, ◌∙◌, subst, add-one, arith}
-use Rattle.std.specs.Option.{MatchOption, unwrap_or}
+use Rattle.std.specs.Option.{MatchOption}
 use Rattle.std.proofs.lemmas.Bool.{cases_eq}
 use Rattle.std.proofs.lemmas.List.{length-map}
 use Rattle.tree.specs.Tree.{has, lowest}
@@ -30,10 +30,10 @@ lowest_none (suc n) q ps f =
     let e : q + suc n ≡ suc q + n = omega arith in
     e ∙ next ∙ ap (λ b. cond b (lowest n (suc q) ps) q) (sym (f q (omega arith) (omega arith)))
 
-pub lowest-found : (P : ℕ) (ps : List ℕ) (r : Option ℕ) → 1 ≤ P
-    → MatchOption r ((k : ℕ) → 1 ≤ k → k < P → has k ps ≡ true) (λ i. (1 ≤ i) × (i < P) × (has i ps ≡ false) × ((k : ℕ) → 1 ≤ k → k < i → has k ps ≡ true)) → unwrap_or r P ≡ lowest (P - 1) 1 ps
-lowest-found P ps None l f = let e : P ≡ 1 + (P - 1) = omega arith in e ∙ lowest_none (P - 1) 1 ps (λ k a b. f k a (omega arith))
-lowest-found P ps (Some i) l f = lowest-at (P - 1) 1 i ps f.0 (omega (arith, f.1)) f.2 f.3
+pub lowest-found : (P : ℕ) (ps : List ℕ) (r : Option ℕ) → lowest (P - 1) 1 ps < P
+    → MatchOption r ((k : ℕ) → 1 ≤ k → k < P → has k ps ≡ true) (λ i. (1 ≤ i) × (i < P) × (has i ps ≡ false) × ((k : ℕ) → 1 ≤ k → k < i → has k ps ≡ true)) → r ≡ Some (lowest (P - 1) 1 ps)
+lowest-found P ps None l f = absurd (omega (arith, lowest_none (P - 1) 1 ps (λ k a b. f k a (omega arith))))
+lowest-found P ps (Some i) l f = ap Some (lowest-at (P - 1) 1 i ps f.0 (omega (arith, f.1)) f.2 f.3)
 
 pub free-below : (is : List Item) (P : ℕ) → length is < P - 1 → lowest (P - 1) 1 (pages_of is) < P
 free-below is P l = let g = lowest_free (P - 1) 1 (pages_of is) (simp length-map (omega arith)) in omega (arith, g.below)

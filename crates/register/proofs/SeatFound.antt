@@ -8,7 +8,7 @@ use Rattle.rows.specs.Lists.{up_to}
 use Rattle.pages.specs.declared.records.Item.{Item}
 use Rattle.register.specs.Images.{items_of, leaf_of, node_of, seat, no_item}
 use Rattle.register.specs.Registers.{IsRegister}
-use Rattle.register.proofs.KeySeats.{seat-known}
+use Rattle.register.proofs.Homes.{home-known}
 
 pub record SeatFound (P : ℕ) (images : List (List ℕ)) (k : List ℕ) (is : List Item) (u : ℕ) : Type 0 where
   pub some : 1 ≤ u
@@ -23,11 +23,11 @@ pub record SeatFound (P : ℕ) (images : List (List ℕ)) (k : List ℕ) (is : L
 pub seat-found : {P : ℕ} {images : List (List ℕ)} {k : List ℕ} {is : List Item} {u : ℕ} → IsRegister P images → length k ≡ 22 → is ≡ items_of images
     → u ≡ up_to before k (map (λ i. i.separator) is) → SeatFound P images k is u
 seat-found {P} {images} {k} {is} {u} r long held up =
-    let h = seat-known P images k r long in
+    let h = home-known P images k r long in
     let e : u ≡ up_to before k (map (λ i. i.separator) (items_of images)) = up ∙ ap (λ is. up_to before k (map (λ i. i.separator) is)) held in
     let at : u - 1 ≡ seat (items_of images) k = ap (λ x. x - 1) e in
     let page : (get_or is (u - 1) no_item).page ≡ (get_or (items_of images) (u - 1) no_item).page = ap (λ is. (get_or is (u - 1) no_item).page) held in
-    let p = page ∙ ap (λ j. (get_or (items_of images) j no_item).page) at in
+    let p = page ∙ ap (λ j. (get_or (items_of images) j no_item).page) at ∙ h.page in
     record {
       some = omega (arith, h.some, e);
       at = at;
@@ -36,5 +36,5 @@ seat-found {P} {images} {k} {is} {u} r long held up =
       from = omega (arith, p, h.from);
       to = omega (arith, p, h.to);
       few = omega (arith, ap length held, length-map (items_of images) (node_of images), r.shape.few);
-      most = omega (arith, ap (λ q. length (leaf_of images q)) p, h.few);
+      most = omega (arith, ap (λ q. length (leaf_of images q)) p, ap length h.held, h.few);
     }

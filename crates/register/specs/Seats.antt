@@ -10,8 +10,6 @@ pub record Seated (P : ℕ) (images : List (List ℕ)) (k : List ℕ) (s : Seat)
   pub items : s.items ≡ items_of images
   pub at : s.at ≡ seat (items_of images) k
   pub page : s.page ≡ (slice_index_or (items_of images) s.at no_item).page
-  pub within : s.at < length s.items
-  pub few : length s.items ≤ 20
   pub from : 1 ≤ s.page
   pub to : s.page < P
   pub small : P ≤ 21

@@ -34,7 +34,8 @@ fn put_at_seat<P: Paged>(pages: &mut [P], mut seat: Seat, new: Entry)
     requires room { is_full (length pages.old) (map P.image pages.old) new.key ≡ false }
     ensures { pages.new ≡ wrote P.written (put_writes (length pages.old) new (map P.image pages.old)) pages.old }
 {
-    seat.leaf.put_in(seat.place, new);
+    let place = seat.place;
+    seat.leaf.put_in(place, new);
     if seat.leaf.len() <= 15 {
         write_records(pages, seat.page, b'L', seat.leaf.as_slice());
     } else {
@@ -48,7 +49,8 @@ fn take_at_seat<P: Paged>(pages: &mut [P], key: &[u8; 22], mut seat: Seat)
     requires there { 1 ≤ seat.place }
     ensures { pages.new ≡ wrote P.written (take_writes key.now (map P.image pages.old)) pages.old }
 {
-    seat.leaf.take_out(seat.place - 1);
+    let last = seat.place - 1;
+    seat.leaf.take_out(last);
     write_records(pages, seat.page, b'L', seat.leaf.as_slice());
     if seat.items.len() > 1 && seat.leaf.len() == 0 {
         drop_item(pages, seat);

@@ -1,5 +1,5 @@
 // Look ups over pages that are lent: what the register has of a key, and of a name.
-ghost use Rattle.std.specs.Prelude.{◌≡◌, ◌<◌, not, false, map, length};
+ghost use Rattle.std.specs.Prelude.{◌≡◌, ◌<◌, not, false, map, length, Some, None};
 ghost use Rattle.names.specs.Orders.{before};
 ghost use Rattle.rows.specs.Lists.{look_up, first_above, last_up_to};
 ghost use Rattle.register.specs.Calls.{Full, NextFree};
@@ -13,7 +13,7 @@ use crate::seats::Seat;
 use names::bound::Bound;
 use names::key::{Key, version_of};
 use names::name::Name;
-use names::version::HIGHEST;
+use names::version::{HIGHEST, Version};
 use pages::page::read_row;
 use pages::paged::{Paged, image_at};
 use pages::records::{Entry, Item};
@@ -74,14 +74,8 @@ impl<'a, P: Paged> Lookup<'a, P> {
         ensures { result ≡ look_up key_of before key.now.bytes (entries_of (map P.image self.now.pages.now)) }
     {
         let seat = self.home(&key.bytes);
-        if seat.place == 0 {
-            return None;
-        }
-        let last = seat.leaf.as_slice()[seat.place - 1];
-        if last.key < key.bytes {
-            return None;
-        }
-        Some(last)
+        let last = seat.leaf.as_slice()[..seat.place].last().copied();
+        last.filter(|last| last.key == key.bytes)
     }
 
     /// The lowest entry above a bound.
@@ -89,15 +83,11 @@ impl<'a, P: Paged> Lookup<'a, P> {
         ensures { result ≡ first_above key_of before bound.now.bytes (entries_of (map P.image self.now.pages.now)) }
     {
         let seat = self.home(&bound.bytes);
-        if seat.place < seat.leaf.len() {
-            return Some(seat.leaf.as_slice()[seat.place]);
+        if let Some(entry) = seat.leaf.as_slice().get(seat.place) {
+            return Some(*entry);
         }
-        let next = seat.at + 1;
-        if next >= seat.items.len() {
-            return None;
-        }
-        let leaf = self.leaf(seat.items.as_slice()[next].page as usize);
-        Some(leaf.as_slice()[0])
+        let next = seat.items.as_slice().get(seat.at + 1)?;
+        self.leaf(next.page as usize).as_slice().first().copied()
     }
 
     // The highest entry that is not above a bound.
@@ -105,33 +95,28 @@ impl<'a, P: Paged> Lookup<'a, P> {
         ensures { result ≡ last_up_to key_of before bound.now.bytes (entries_of (map P.image self.now.pages.now)) }
     {
         let seat = self.home(&bound.bytes);
-        if seat.place > 0 {
-            return Some(seat.leaf.as_slice()[seat.place - 1]);
+        if let Some(last) = seat.leaf.as_slice()[..seat.place].last() {
+            return Some(*last);
         }
-        if seat.at == 0 {
-            return None;
-        }
-        let leaf = self.leaf(seat.items.as_slice()[seat.at - 1].page as usize);
-        Some(leaf.as_slice()[leaf.len() - 1])
+        let before = seat.items.as_slice()[..seat.at].last()?;
+        self.leaf(before.page as usize).as_slice().last().copied()
     }
 
     /// The entry of a name's newest version.
     pub fn newest(&self, name: &Name) -> Option<Entry>
         ensures { result ≡ newest_of name.now.bytes (entries_of (map P.image self.now.pages.now)) }
     {
-        let last = self.last_up_to(&Bound::at(name, HIGHEST))?;
-        if is_of(&last, name) { Some(last) } else { None }
+        let last = self.last_up_to(&Bound::at(name, HIGHEST));
+        last.filter(|last| is_of(last, name))
     }
 
-    /// The highest version of a name, or 0.
-    pub fn highest_version(&self, name: &Name) -> u16
-        ensures value { result ≡ highest_version_of name.now.bytes (entries_of (map P.image self.now.pages.now)) }
-        ensures next { NextFree name.now.bytes result (entries_of (map P.image self.now.pages.now)) }
+    /// The highest version of a name, if there is one.
+    pub fn highest_version(&self, name: &Name) -> Option<Version>
+        ensures value { elim result [ Some v ↦ highest_version_of name.now.bytes (entries_of (map P.image self.now.pages.now)) ≡ v.number | None ↦ highest_version_of name.now.bytes (entries_of (map P.image self.now.pages.now)) ≡ 0 ] }
+        ensures next { elim result [ Some v ↦ NextFree name.now.bytes v.number (entries_of (map P.image self.now.pages.now)) | None ↦ NextFree name.now.bytes 0 (entries_of (map P.image self.now.pages.now)) ] }
     {
-        match self.newest(name) {
-            Some(entry) => version_of(&entry.key),
-            None => 0,
-        }
+        self.newest(name)
+            .and_then(|newest| Version::new(version_of(&newest.key)))
     }
 
     /// The page of the leaf that a key belongs to.

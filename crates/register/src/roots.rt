@@ -16,26 +16,24 @@ fn names(items: &[Item], page: usize) -> bool
     items.iter().any(|item| page == item.page as usize)
 }
 
-// The lowest page from 1 on that no item names.
+// The lowest page from 1 on that no item names; there is one.
 fn lowest_free(items: &[Item], pages: usize) -> usize
-    requires some { 1 ≤ pages }
-    requires few { pages ≤ 21 }
+    requires { lowest (pages - 1) 1 (pages_of items.now) < pages }
     ensures { result ≡ lowest (pages - 1) 1 (pages_of items.now) }
 {
-    (1..pages)
-        .find(|page| !names(items, *page))
-        .unwrap_or(pages)
+    (1..pages).find(|page| !names(items, *page)).unwrap()
 }
 
 // Writes two halves of a leaf of 16 entries, and the root with one item more.
-pub(crate) fn split<P: Paged>(pages: &mut [P], mut seat: Seat)
-    requires room { (length seat.items < 20) × (seat.at < length seat.items) }
+pub(crate) fn split<P: Paged>(pages: &mut [P], seat: Seat)
+    requires room { length seat.items < 20 }
     requires full { length seat.leaf ≡ 16 }
     requires pages { (seat.page < length pages.old) × (length pages.old ≤ 21) }
     requires free { lowest (length pages.old - 1) 1 (pages_of seat.items) < length pages.old }
     ensures { pages.new ≡ wrote P.written (split_writes seat.at seat.page (lowest (length pages.old - 1) 1 (pages_of seat.items)) seat.items seat.leaf) pages.old }
 {
-    let page = lowest_free(seat.items.as_slice(), pages.len());
+    let mut items = seat.items;
+    let page = lowest_free(items.as_slice(), pages.len());
     let entries = seat.leaf.as_slice();
     write_records(pages, seat.page, b'L', &entries[0..8]);
     write_records(pages, page, b'L', &entries[8..16]);
@@ -43,21 +41,22 @@ pub(crate) fn split<P: Paged>(pages: &mut [P], mut seat: Seat)
         separator: entries[8].key,
         page: page as u16,
     };
-    seat.items.put_in(seat.at + 1, item);
-    write_records(pages, 0, b'R', seat.items.as_slice());
+    items.put_in(seat.at + 1, item);
+    write_records(pages, 0, b'R', items.as_slice());
 }
 
 // Writes the root without an item, its first separator zeros.
-pub(crate) fn drop_item<P: Paged>(pages: &mut [P], mut seat: Seat)
-    requires place { (seat.at < length seat.items) × (1 < length seat.items) × (length seat.items ≤ 20) }
+pub(crate) fn drop_item<P: Paged>(pages: &mut [P], seat: Seat)
+    requires more { 1 < length seat.items }
     requires there { 0 < length pages.old }
     ensures { pages.new ≡ edit (λ p. P.written p (root_page (zero_first (without seat.items seat.at)))) 0 pages.old }
 {
-    seat.items.take_out(seat.at);
+    let mut items = seat.items;
+    items.take_out(seat.at);
     let first = Item {
         separator: [0; 22],
-        page: seat.items.as_slice()[0].page,
+        page: items.as_slice()[0].page,
     };
-    seat.items.replace(0, first);
-    write_records(pages, 0, b'R', seat.items.as_slice());
+    items.replace(0, first);
+    write_records(pages, 0, b'R', items.as_slice());
 }

@@ -27,6 +27,7 @@ pub(crate) fn write_records<P: Paged, R: Stored>(
 }
 
 // The seat of a key: the root's items, the place of the item that the key belongs to and its page, the entries of that leaf, and how many of them are not above the key.
+// What else is known of a seat is `Seated`, and no fact of this type: it speaks of a key and of page images, which a seat does not hold.
 #[derive(Drop)]
 pub(crate) struct Seat {
     pub(crate) items: Row<Item, 20>,
@@ -34,6 +35,7 @@ pub(crate) struct Seat {
     pub(crate) page: usize,
     pub(crate) leaf: Row<Entry, 16>,
     pub(crate) place: usize,
+    ghost within: { at < length items },
 }
 
 // The most items that the root may have in a register of so many pages.

@@ -24,7 +24,7 @@ fn is_empty(
     assert!(rt; look.find(&key).is_none());
     assert!(rt; look.above(&Bound::lowest()).is_none());
     assert!(rt; look.newest(&name).is_none());
-    assert_eq!(rt; look.highest_version(&name), 0);
+    assert!(rt; look.highest_version(&name).is_none());
     assert_eq!(rt; look.page_of(&key), page);
     assert!(rt; register.take_out(&key).is_none());
     Ok(())

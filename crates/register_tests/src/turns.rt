@@ -4,6 +4,7 @@ use crate::changes::{key, take};
 use names::bound::Bound;
 use names::key::Key;
 use names::name::Name;
+use names::version::Version;
 use pages::records::Entry;
 use register::changes::Register;
 use register::lookups::Lookup;
@@ -117,26 +118,33 @@ fn bounds_tell(rt: &impl Abort, register: &Lookup<'_, [u8; 512]>) -> Result<(), 
 }
 
 // Names, and the places and versions of their newest.
-const NEWEST: [(&'static [u8], Option<u32>, u16); 12] = [
-    (b"-", Some(0), 1),
-    (b"R", Some(5), 9999),
-    (b"R-5", Some(6), 7),
-    (b"R1", Some(10), 9999),
-    (b"R10", Some(11), 4),
-    (b"R100", None, 0),
-    (b"R1000000000000000000", Some(12), 1),
-    (b"R5", Some(15), 257),
-    (b"ROUND-1", Some(16), 1),
-    (b"ROUND", None, 0),
-    (b"Z", Some(18), 1),
-    (b"ZZ", None, 0),
+const NEWEST: [(&'static [u8], Option<u32>, Option<u16>); 12] = [
+    (b"-", Some(0), Some(1)),
+    (b"R", Some(5), Some(9999)),
+    (b"R-5", Some(6), Some(7)),
+    (b"R1", Some(10), Some(9999)),
+    (b"R10", Some(11), Some(4)),
+    (b"R100", None, None),
+    (b"R1000000000000000000", Some(12), Some(1)),
+    (b"R5", Some(15), Some(257)),
+    (b"ROUND-1", Some(16), Some(1)),
+    (b"ROUND", None, None),
+    (b"Z", Some(18), Some(1)),
+    (b"ZZ", None, None),
 ];
+
+// The number of a name's highest version.
+fn highest(register: &Lookup<'_, [u8; 512]>, name: &Name) -> Option<u16> {
+    register
+        .highest_version(name)
+        .map(|version: Version| version.number)
+}
 
 fn names_tell(rt: &impl Abort, register: &Lookup<'_, [u8; 512]>) -> Result<(), Fail> {
     for (text, place, version) in &NEWEST {
         let name = Name::new(*text)?;
-        assert_eq!(rt; place_of(register.newest(&name)), *place, "{}", version);
-        assert_eq!(rt; register.highest_version(&name), *version);
+        assert_eq!(rt; place_of(register.newest(&name)), *place, "{:?}", version);
+        assert_eq!(rt; highest(register, &name), *version);
     }
     Ok(())
 }
@@ -187,7 +195,7 @@ fn newest_on_the_leaf_before(rt: HostRuntime) -> Result<(), Fail> {
         (1, 2)
     );
     assert_eq!(rt; place_of(look.newest(&name)), Some(8));
-    assert_eq!(rt; look.highest_version(&name), 8);
+    assert_eq!(rt; highest(&look, &name), Some(8));
     assert_eq!(rt; place_of(look.above(&Bound::at(&name, 8))), Some(10));
     assert_eq!(rt; place_of(look.above(&Bound::at(&name, 9))), Some(10));
     for version in 1..10 {
@@ -198,7 +206,7 @@ fn newest_on_the_leaf_before(rt: HostRuntime) -> Result<(), Fail> {
     assert_eq!(rt; replay(&mut pages, changes.as_slice()), 25);
     let register = Lookup::over(&pages);
     assert!(rt; register.newest(&name).is_none());
-    assert_eq!(rt; register.highest_version(&name), 0);
+    assert_eq!(rt; highest(&register, &name), None);
     assert_eq!(rt; place_of(register.above(&Bound::lowest())), Some(10));
     Ok(())
 }

@@ -1,17 +1,17 @@
 -- The rules of a tree after a change.
 --     all-change, length-change, bound-change      what holds of each node, how many there are, and where they begin
---     change-at, leaf-at, at-within, leaf-has      the changed leaf by its place
+--     leaf-has         what holds of each node holds of a key's leaf
 --     apart-same, apart-dropped, apart-two         the pages after a change
 --     put-with_more, put-split                     a leaf with one entry more, and one that is split
 --     take-with_less, take-dropped                 a leaf with one entry fewer, and one that goes
-use Rattle.std.proofs.Common.{◌≡◌, ℕ, suc, ◌+◌, ◌-◌, ◌<◌, ◌≤◌, min, Bool, false, List, [], ◌∷◌, ◌++◌, length, get_or, take, drop, Some, None, Option, sym, refl, ap, ◌∙◌, subst, append_assoc, arith}
+use Rattle.std.proofs.Common.{◌≡◌, ℕ, ◌+◌, ◌-◌, ◌<◌, ◌≤◌, min, Bool, false, List, [], ◌∷◌, ◌++◌, length, take, drop, Some, None, Option, sym, refl, ap, ◌∙◌, subst, append_assoc, arith}
 use Rattle.std.specs.List.{AllByRecursion}
 use Rattle.std.proofs.lemmas.Bool.{cond_both}
 use Rattle.std.proofs.ByRecursion.{All-append, All-weaker}
-use Rattle.std.proofs.lemmas.List.{length-append, length-take, length-drop, length-map, map-append, take_at, drop_at, get_or_at}
+use Rattle.std.proofs.lemmas.List.{length-append, length-take, length-drop, length-map, map-append}
 use Rattle.names.specs.Orders.{Total}
-use Rattle.rows.specs.Lists.{up_to, insert, remove, look_up}
-use Rattle.tree.specs.Tree.{Node, node, seps, pages, entries, has, Apart, lowest, Under, bound, Fine, change, leaf_at, with_more, second, split, with_less, dropped, with_first, Shape}
+use Rattle.rows.specs.Lists.{insert, remove, look_up}
+use Rattle.tree.specs.Tree.{Node, node, pages, entries, has, Apart, lowest, Under, bound, Fine, change, leaf_at, with_more, second, split, with_less, dropped, with_first, Shape}
 use Rattle.rows.proofs.Sorting.{le-lt, le_trans, not_back, all-parts, length-insert}
 use Rattle.tree.proofs.Nodes.{spot, change-fine, keeps-with_more, keeps-split, keeps-with_less, keeps-dropped, entry_in}
 use Rattle.tree.proofs.Pages.{apart-less, apart-add, lowest_free}
@@ -24,25 +24,6 @@ module _ {K E : Type 0} (key : E → K) (lt : K → K → Bool) where
       let h = spot key lt k n ns in
       let p = all-parts P h.left (leaf_at key lt k n ns ∷ h.right) (subst (AllByRecursion P) h.whole a) in
       subst (AllByRecursion P) (sym (h.changed f)) (All-append P h.left (f (leaf_at key lt k n ns) ++ h.right) p.0 (All-append P (f (leaf_at key lt k n ns)) h.right (g p.1.0) p.1.1))
-
-  -- the same by place: i is that of the leaf
-  module _ (k : K) (n : Node K E) (ns : List (Node K E)) where
-    abbrev i : ℕ
-    i = up_to lt k (seps ns)
-
-    pub change-at : (f : Node K E → List (Node K E)) → change key lt f k n ns ≡ take i (n ∷ ns) ++ (f (leaf_at key lt k n ns) ++ drop (suc i) (n ∷ ns))
-    change-at f =
-        let h = spot key lt k n ns in
-        let m = leaf_at key lt k n ns in
-        let t : take i (n ∷ ns) ≡ h.left = ap (take i) h.whole ∙ take_at h.left (m ∷ h.right) i h.at in
-        let d : drop (suc i) (n ∷ ns) ≡ h.right = ap (drop (suc i)) h.whole ∙ ap (λ t. drop (suc i) t) (sym (append_assoc h.left (m ∷ []) h.right)) ∙ drop_at (h.left ++ m ∷ []) h.right (suc i) (length-append h.left (m ∷ []) ∙ omega (arith, h.at)) in
-        h.changed f ∙ ap (λ l. l ++ (f m ++ h.right)) (sym t) ∙ ap (λ r. take i (n ∷ ns) ++ (f m ++ r)) (sym d)
-
-    pub leaf-at : (d : Node K E) → leaf_at key lt k n ns ≡ get_or (n ∷ ns) i d
-    leaf-at d = let h = spot key lt k n ns in sym (ap (λ t. get_or t i d) h.whole ∙ get_or_at h.left (leaf_at key lt k n ns) h.right d i h.at)
-
-    pub at-within : i < length (n ∷ ns)
-    at-within = let h = spot key lt k n ns in omega (arith, ap length h.whole, length-append h.left (leaf_at key lt k n ns ∷ h.right), h.at)
 
   pub length-change : (f : Node K E → List (Node K E)) (k : K) (n : Node K E) (ns : List (Node K E)) → length (change key lt f k n ns) + 1 ≡ length (n ∷ ns) + length (f (leaf_at key lt k n ns))
   length-change f k n ns =

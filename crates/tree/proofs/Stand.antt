@@ -1,4 +1,5 @@
 -- The tree's operations are those of the plain list of its entries, and keep its rules.
+--     or-none      one answer or else none
 --     put-stands, take-stands, finds-stand     putting in, taking out and looking up
 use Rattle.std.proofs.Common.{◌≡◌, ℕ, ◌-◌, ◌<◌, ◌≤◌, min, Bool, false, cond, ◌&&◌, eqb, ltb, List, [], ◌∷◌, ◌++◌, length, take, drop, Some, None, Option, sym, refl, ap, ◌∙◌, append-nil, arith}
 use Rattle.std.specs.List.{AllByRecursion}
@@ -11,6 +12,10 @@ use Rattle.tree.specs.Laws.{Put, PutStands, TakeStands, FindsStand}
 use Rattle.rows.proofs.Sorting.{length-remove-le}
 use Rattle.tree.proofs.Nodes.{change-entries, insert-local, remove-local, entry_in, above_in, up_to-in}
 use Rattle.tree.proofs.Shapes.{leaf-has, put-with_more, put-split, take-with_less, take-dropped}
+
+pub or-none : {X : Type 0} (v : Option X) → or_else v None ≡ v
+or-none (Some x) = refl
+or-none None = refl
 
 module _ {K E : Type 0} (key : E → K) (lt : K → K → Bool) where
   second-entries : (q : ℕ) (es : List E) → entries (second key lt q es) ≡ es
@@ -59,10 +64,6 @@ module _ {K E : Type 0} (key : E → K) (lt : K → K → Bool) where
     where
       kept : 1 < length (n ∷ ns) → (ltb 1 (length (n ∷ ns)) && eqb (length (remove key lt k (leaf_at key lt k n ns).entries)) 0) ≡ false → 0 < length (remove key lt k (leaf_at key lt k n ns).entries)
       kept c b = grind (arith, nat_tests)
-
-  or-none : (v : Option E) → or_else v None ≡ v
-  or-none (Some x) = refl
-  or-none None = refl
 
   pub finds-stand : FindsStand key lt
   finds-stand o z P k n ns s = (

@@ -24,8 +24,6 @@ returns-clause-seated g c =
       items = held;
       at = f.at;
       page = read ∙ f.page;
-      within = f.within;
-      few = f.few;
       from = omega (arith, read, f.from);
       to = omega (arith, read, f.to);
       small = c.args.self.now.kept.most;
@@ -34,3 +32,7 @@ returns-clause-seated g c =
       place = c.find-place.ensures.value ∙ up_to-before _ _ ∙ ap (λ es. up_to before c.args.key.now (map key_of es)) c.leaf-leaf.ensures;
       inside = c.find-place.ensures.bound;
     }
+
+pub invariant_of-result : goal.invariant_of-result
+invariant_of-result g c =
+    let f = seat-found c.args.self.now.kept c.told-key (c.read_row-items.ensures ∙ ap (records_of item_of 24 20) c.image_at.ensures) c.find-at.ensures.value in record { within = f.within }

@@ -1,28 +1,20 @@
-use Rattle.std.proofs.Common.{◌-◌, length, sym, ap, arith}
-use Rattle.register.proofs.SeatLookUps.{last-at, last-past, last-in, other-to, other-filled}
+use Rattle.std.proofs.Common.{refl, ap, ◌∙◌}
+use Rattle.rows.specs.Lists.{last}
+use Rattle.register.proofs.LeafPlaces.{last-is}
+use Rattle.register.proofs.SeatLookUps.{up_to-here, up_to-past, up_to-prior, page-before}
 use Rattle.register.proofs.lookups.Lookup.last_up_to.Goals as goal
 
-pub returns-then-seat-gt0 : goal.returns-then-seat-gt0
-returns-then-seat-gt0 g c = sym (last-at c.args.self.now.kept c.home-seat.ensures.long c.home-seat.ensures.seated c.as_slice.ensures.records c.if-seat-gt0.true)
+pub returns-in-Some : goal.returns-in-Some
+returns-in-Some g c = up_to-here c.args.self.now.kept c.home-seat.ensures.long c.home-seat.ensures.seated c.as_slice.ensures.records refl c.in-Some.last.now c.in-Some.ensures.value
 
-pub returns-then-seat-eq0 : goal.returns-then-seat-eq0
-returns-then-seat-eq0 g c = sym (last-past c.args.self.now.kept c.home-seat.ensures.long c.home-seat.ensures.seated (omega arith) c.if-seat-eq0.true)
+pub returns-in_err-before : goal.returns-in_err-before
+returns-in_err-before g c =
+    c.from_residual.ensures ∙ up_to-past c.args.self.now.kept c.home-seat.ensures.long c.home-seat.ensures.seated c.as_slice.ensures.records c.as_slice-2.ensures.records c.in_default.ensures.value c.in_err-before.ensures.value
 
-pub leaf-leaf-requires : goal.leaf-leaf-requires
-leaf-leaf-requires g c = let h = c.home-seat.ensures.seated in other-to c.args.self.now.kept c.home-seat.ensures.long h c.as_slice-2.ensures.records (c.home-seat.result.at - 1) (omega (arith, h.within))
-
-pub overflow_sub-result-2 : goal.overflow_sub-result-2
-overflow_sub-result-2 g c =
-    let h = c.home-seat.ensures.seated in
-    omega (arith, other-filled c.args.self.now.kept c.home-seat.ensures.long h c.as_slice-2.ensures.records (c.home-seat.result.at - 1) (omega (arith, h.within)) c.leaf-leaf.ensures (omega (arith, h.within)))
-
-pub bounds-as_slice-len : goal.bounds-as_slice-len
-bounds-as_slice-len g c =
-    let h = c.home-seat.ensures.seated in
-    omega (arith, ap length c.as_slice-3.ensures.records, other-filled c.args.self.now.kept c.home-seat.ensures.long h c.as_slice-2.ensures.records (c.home-seat.result.at - 1) (omega (arith, h.within)) c.leaf-leaf.ensures (omega (arith, h.within)))
+pub leaf-requires : goal.leaf-requires
+leaf-requires g c = page-before c.args.self.now.kept c.home-seat.ensures.long c.home-seat.ensures.seated c.as_slice.ensures.records c.as_slice-2.ensures.records c.in_ok-before.before.now c.in_ok-before.ensures.value
 
 pub returns : goal.returns
 returns g c =
-    let h = c.home-seat.ensures.seated in
-    let last = sym (last-in c.args.self.now.kept c.home-seat.ensures.long h c.as_slice-2.ensures.records (c.home-seat.result.at - 1) (omega (arith, h.within)) c.leaf-leaf.ensures (omega arith) (omega arith)) in
-    rw (c.as_slice-3.ensures.records, c.len.ensures.value) last
+    c.copied.ensures ∙ c.last-3.ensures.value ∙ last-is c.as_slice-3.result.now ∙ ap last (c.as_slice-3.ensures.records ∙ c.leaf.ensures)
+    ∙ up_to-prior c.args.self.now.kept c.home-seat.ensures.long c.home-seat.ensures.seated c.as_slice.ensures.records c.as_slice-2.ensures.records c.in_ok-before.before.now c.in_default.ensures.value c.in_ok-before.ensures.value
