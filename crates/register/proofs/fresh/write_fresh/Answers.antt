@@ -1,23 +1,15 @@
-use Rattle.std.proofs.Common.{◌+◌, ◌-◌, map, length, set, sym, ap, ◌∙◌, subst, arith}
+use Rattle.std.proofs.Common.{map, length, sym, ap, ◌∙◌, subst, rules, arith}
 use Rattle.std.proofs.lemmas.List.{length-map}
-use Rattle.pages.specs.Writes.{wrote}
-use Rattle.pages.proofs.Edits.{edit-set, map-wrote}
+use Rattle.pages.proofs.Edits.{map-wrote}
 use Rattle.register.specs.Images.{entries_of}
 use Rattle.register.specs.Registers.{IsRegister}
-use Rattle.register.specs.Fresh.{fresh_page, fresh_writes}
-use Rattle.register.proofs.FreshImages.{fresh-step, fresh-end, fresh-imaged}
+use Rattle.register.specs.Fresh.{fresh_writes}
+use Rattle.register.proofs.FreshImages.{fresh-more, fresh-end, fresh-imaged}
 use Rattle.register.proofs.Stand.{fresh-stands}
 use Rattle.register.proofs.fresh.write_fresh.Goals as goal
 
 pub loop-at-preserved : goal.loop-at-preserved
-loop-at-preserved g c =
-    let w = g.P.Paged.written in
-    let p = c.loop-at.at in
-    let n = length c.args.pages.now in
-    let x = c.index-pages-at.result in
-    let image = c.write.ensures ∙ ap (λ y. w y c.fresh_page.result) (sym c.index-pages-at.is) ∙ ap (w x) c.fresh_page.ensures in
-    let made = ap (set c.loop-at.pages p) image ∙ edit-set (λ y. w y (fresh_page p)) p c.loop-at.pages x (omega arith) c.index-pages-at.is in
-    ap (wrote w (fresh_writes (p + 1) (n - (p + 1)))) made ∙ sym (fresh-step w p n c.loop-at.pages c.loop-at-test.true) ∙ c.loop-at.invariant
+loop-at-preserved g c = search (rules, fresh-more)
 
 pub returns : goal.returns
 returns g c =
