@@ -27,4 +27,5 @@ pub mod RootPages
 pub mod Telling
 pub mod Saying
 pub mod BySeat
+pub mod Onward
 pub mod SeatLookUps

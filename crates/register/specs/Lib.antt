@@ -7,3 +7,4 @@ pub mod Said
 pub mod Names
 pub mod Calls
 pub mod Fresh
+pub mod Entries

@@ -2,6 +2,7 @@
 #![tactic(auto)]
 
 pub mod changes;
+pub mod entries;
 pub mod fresh;
 pub mod lookups;
 pub mod replay;

@@ -6,6 +6,8 @@ mod changes;
 #[cfg(test)]
 mod emptied;
 #[cfg(test)]
+mod entries;
+#[cfg(test)]
 mod extents;
 #[cfg(test)]
 mod fills;
