@@ -3,8 +3,7 @@
 --     OldOrNew     a trial that was carried out read back the old sheet or the new one
 --     Told         a trial tells of one renewal of a disk that held the old sheet twice: its answer, the sectors after it, what was read back and from where
 --     Carried      a trial that was carried out tells so
-use Rattle.std.specs.Prelude.{◌≡◌, ℕ, List, Ok, Err, Result, ◌≢◌}
-use Rattle.refusal.specs.declared.Refusal.{Refusal}
+use Rattle.std.specs.Prelude.{◌≡◌, ℕ, List, Ok, Result, ◌≢◌, IfOk}
 use Rattle.failing.specs.declared.manner.Manner.{Manner}
 use Rattle.disk.specs.Sectors.{DiskState}
 use Rattle.sheet.specs.Twins.{Both, Standing, Leaves}
@@ -18,9 +17,8 @@ Tells back old new Old = back ≡ old
 Tells back old new New = back ≡ new
 Tells back old new Other = (back ≢ old) × (back ≢ new)
 
-abbrev pub OldOrNew : Result Trial Refusal → Type 0
-OldOrNew (Ok trial) = trial.came ≡ Other → ⊥
-OldOrNew (Err refusal) = Unit {0}
+abbrev pub OldOrNew : {E : Type 0} → Result Trial E → Type 0
+OldOrNew result = IfOk result (λ trial. trial.came ≢ Other)
 
 pub record Told (old new : List ℕ) (manner : Manner) (trial : Trial) : Type 0 where
   pub before : DiskState
@@ -35,6 +33,5 @@ pub record Told (old new : List ℕ) (manner : Manner) (trial : Trial) : Type 0 
   pub came : Tells back old new trial.came
   pub source : Standing 2 4 after trial.source back
 
-abbrev pub Carried : List ℕ → List ℕ → Manner → Result Trial Refusal → Type 0
-Carried old new manner (Ok trial) = Told old new manner trial
-Carried old new manner (Err refusal) = Unit {0}
+abbrev pub Carried : {E : Type 0} → List ℕ → List ℕ → Manner → Result Trial E → Type 0
+Carried old new manner result = IfOk result (Told old new manner)

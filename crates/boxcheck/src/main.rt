@@ -10,7 +10,7 @@ mod trials;
 
 use crate::lines::{Line, Places};
 use crate::tally::Tally;
-use crate::trials::{Came, Failure, MANNERS, Sheets};
+use crate::trials::{Came, Failure, MANNERS, Sheets, Stopped};
 use anyhow::{Context, ensure};
 use cases::worked_cases;
 use disk::disks::Disk;
@@ -41,15 +41,16 @@ fn new_sheet(rt: &HostRuntime) -> anyhow::Result<String> {
 
 // Carries out one trial and prints its line.
 fn show(rt: &HostRuntime, sheets: &Sheets, failure: Failure) -> anyhow::Result<Came> {
-    match sheets.carry_out(rt.alloc(), failure)? {
+    match sheets.carry_out(rt.alloc(), failure) {
         Ok(trial) => {
             println!(rt; "{trial}")?;
             Ok(trial.came)
         }
-        Err(refusal) => {
-            println!(rt; "refused: {refusal}")?;
+        Err(refused @ Stopped::Refused(_)) => {
+            println!(rt; "{refused}")?;
             Ok(Came::Other)
         }
+        Err(Stopped::NoMemory(lack)) => Err(lack.into()),
     }
 }
 

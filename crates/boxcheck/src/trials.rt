@@ -1,5 +1,4 @@
 // One trial: a sheet is renewed on a fresh disk whose power fails, and read back.
-ghost use Rattle.std.specs.Prelude.{◌≡◌, IfOk};
 ghost use Rattle.boxcheck.specs.Trials.{Tells, OldOrNew, Carried};
 
 use disk::disks::Spoilable;
@@ -10,6 +9,7 @@ use refusal::Refusal;
 use sheet::survey::survey;
 use sheet::twins::Copies;
 use std::alloc::{AllocError, Global};
+use thiserror::Error;
 use window::Window;
 
 pub const MANNERS: [Manner; 5] = [
@@ -49,6 +49,15 @@ pub struct Trial {
     pub readable: [bool; 5],
     pub came: Came,
     pub source: u32,
+}
+
+/// Why a trial was not carried out.
+#[derive(Clone, Copy, PartialEq, Eq, Debug, Error)]
+pub enum Stopped {
+    #[error(transparent)]
+    NoMemory(#[from] AllocError),
+    #[error("refused: {0}")]
+    Refused(#[from] Refusal),
 }
 
 /// The sheet that a disk holds before a trial, and the one that is written in it.
@@ -101,16 +110,12 @@ impl Sheets {
     }
 
     /// One trial on a fresh image of zeros.
-    pub fn carry_out(
-        &self,
-        heap: Global,
-        failure: Failure,
-    ) -> Result<Result<Trial, Refusal>, AllocError>
-        ensures law { IfOk result OldOrNew }
-        ensures tells { IfOk result (Carried self.now.old self.now.new failure.manner) }
+    pub fn carry_out(&self, heap: Global, failure: Failure) -> Result<Trial, Stopped>
+        ensures law { OldOrNew result }
+        ensures tells { Carried self.now.old self.now.new failure.manner result }
     {
         let mut bytes: Vec<u8> = vec![in heap; 0; SECTORS * 513]?;
         let mut part = Window::new(Image::new(bytes.as_mut_slice()), 3, 10);
-        Ok(self.on_disk(&mut part, failure))
+        Ok(self.on_disk(&mut part, failure)?)
     }
 }
