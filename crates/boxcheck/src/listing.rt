@@ -25,29 +25,33 @@ pub const IMAGES: usize = PAGES as usize;
 /// How many files there are places for on the leaves: 15 on each page but that of the root.
 pub const PLACES: u32 = 15 * (PAGES as u32 - 1);
 
-// Writes two copies of the header and of the anchor.
+// Writes what carries a value to each of these sectors.
+fn write_to<D: Disk, C: Carried>(disk: &mut D, value: &C, sectors: &[u32]) -> Result<(), Fault> {
+    let mut bytes = [0u8; 512];
+    value.encode(&mut bytes);
+    for sector in sectors {
+        disk.write(*sector, &bytes)?;
+    }
+    Ok(())
+}
+
+// Writes the header and the anchor, each twice.
 fn write_twins<D: Disk>(disk: &mut D) -> Result<(), Fault> {
-    let mut work = [0u8; 512];
     let header = Header {
         pages: PAGES,
         third: THIRD,
         sectors: SECTORS,
     };
-    header.encode(&mut work);
-    disk.write(0, &work)?;
-    disk.write(2, &work)?;
+    write_to(disk, &header, &[0, 2])?;
     let anchor = Anchor {
         third: Third::Zero,
         group: 2,
     };
-    anchor.encode(&mut work);
-    disk.write(4, &work)?;
-    disk.write(6, &work)
+    write_to(disk, &anchor, &[4, 6])
 }
 
-// Writes the heads and the ends of group 2 with page 1, from `start` on.
-fn write_record<D: Disk>(disk: &mut D, start: u32) -> Result<(), Fault> {
-    let mut work = [0u8; 512];
+// Writes the record of group 2 with page 1: its head and its end, each twice.
+fn write_record<D: Disk>(disk: &mut D) -> Result<(), Fault> {
     let mut pages = [0u8; 21];
     pages[0] = 1;
     let head = RecordHead {
@@ -55,36 +59,25 @@ fn write_record<D: Disk>(disk: &mut D, start: u32) -> Result<(), Fault> {
         count: 1,
         pages,
     };
-    head.encode(&mut work);
-    disk.write(start, &work)?;
-    disk.write(start.saturating_add(2), &work)?;
+    write_to(disk, &head, &[8, 10])?;
     let end = RecordEnd { group: 2, count: 1 };
-    end.encode(&mut work);
-    disk.write(start.saturating_add(4), &work)?;
-    disk.write(start.saturating_add(6), &work)
+    write_to(disk, &end, &[12, 14])
 }
 
 // Writes the leader of a file.
-fn write_leader<D: Disk>(
-    disk: &mut D,
-    sector: u32,
-    name: &[u8],
-    length: u32,
-) -> Result<(), Refusal> {
-    let key = Key::new(&Name::new(name)?, Version::first());
+fn write_leader<D: Disk>(disk: &mut D) -> Result<(), Refusal> {
+    let key = Key::new(&Name::new(b"R5")?, Version::first());
     let leader = Leader {
         key: key.bytes,
-        length,
+        length: 40,
     };
-    let mut work = [0u8; 512];
-    leader.encode(&mut work);
-    disk.write(sector, &work)?;
+    write_to(disk, &leader, &[60])?;
     Ok(())
 }
 
 /// Writes the tagged sectors of the listing.
 pub fn write_all<D: Disk>(disk: &mut D) -> Result<(), Refusal> {
     write_twins(disk)?;
-    write_record(disk, 8)?;
-    write_leader(disk, 60, b"R5", 40)
+    write_record(disk)?;
+    write_leader(disk)
 }
