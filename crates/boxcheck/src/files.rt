@@ -13,35 +13,33 @@ use register::replay::{Change, replay};
 use register_check::check::check;
 
 // A name and a version.
-fn key(text: &[u8], version: u16) -> Option<Key> {
-    let name = Name::new(text).ok()?;
-    Some(Key::new(&name, Version::new(version)?))
+fn key(text: &[u8], version: u16) -> anyhow::Result<Key> {
+    let name = Name::new(text).context("a name of a file is bad")?;
+    let version = Version::new(version).context("a version of a file is bad")?;
+    Ok(Key::new(&name, version))
 }
 
 // A file of so many bytes is put in, from a sector on.
-fn put(text: &[u8], version: u16, start: u32, length: u32) -> Option<Change> {
-    Some(Change::Put {
+fn put(text: &[u8], version: u16, start: u32, length: u32) -> anyhow::Result<Change> {
+    Ok(Change::Put {
         key: key(text, version)?,
         start,
         length,
     })
 }
 
-fn take(text: &[u8], version: u16) -> Option<Change> {
-    Some(Change::Take {
-        key: key(text, version)?,
-    })
-}
-
 // Five files are put in, and one is taken out.
-fn changes() -> Option<[Change; 6]> {
-    Some([
+// No table that is mapped to changes: each of them can be refused, and a map to an array has no `?`.
+fn changes() -> anyhow::Result<[Change; 6]> {
+    Ok([
         put(b"R5", 1, 60, 40)?,
         put(b"ROUND-1", 1, 63, 512)?,
         put(b"R10", 1, 66, 1200)?,
         put(b"ROUND-1", 2, 71, 530)?,
         put(b"R10", 2, 75, 8192)?,
-        take(b"ROUND-1", 1)?,
+        Change::Take {
+            key: key(b"ROUND-1", 1)?,
+        },
     ])
 }
 
@@ -63,7 +61,7 @@ fn list_files<P: Paged>(rt: &HostRuntime, register: &Lookup<'_, P>) -> anyhow::R
 
 /// Fills the register of a small volume, lists its files and checks its rules.
 pub fn show_register(rt: &HostRuntime, geometry: &Geometry) -> anyhow::Result<()> {
-    let changes = changes().context("a name of a file is bad")?;
+    let changes = changes()?;
     let mut pages = [[0; 512]; IMAGES];
     let done = replay(&mut pages, &changes);
     ensure!(done == changes.len(), "the register is full");
