@@ -26,15 +26,10 @@ const NEW: &str = "ROUND 3: ADAMS 2.5, BAKER 1.0, CHEN 1.5";
 
 // The words of the command line, joined by spaces, or the usual new sheet where there are none.
 fn new_sheet(rt: &HostRuntime) -> anyhow::Result<String> {
-    let mut text = String::new(rt.alloc());
-    for (i, word) in env::args(rt)?.skip(1).enumerate() {
-        if i > 0 {
-            text.push(' ')?;
-        }
-        text.push_str(word.as_str())?;
-    }
+    let words: Vec<String> = env::args(rt)?.skip(1).collect(rt.alloc())?;
+    let text = words.join(rt.alloc(), " ")?;
     if text.is_empty() {
-        text.push_str(NEW)?;
+        return Ok(String::from_str(rt.alloc(), NEW)?);
     }
     Ok(text)
 }
