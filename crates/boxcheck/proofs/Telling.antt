@@ -1,9 +1,9 @@
 -- A trial tells of its renewal: its parts are what the calls after it answered.
-use Rattle.std.proofs.Common.{◌≡◌, ℕ, Bool, List, Some, None, Ok, Option, refl, ap, ◌∙◌, subst, lit≤}
+use Rattle.std.proofs.Common.{◌≡◌, ℕ, Bool, List, Some, None, Ok, Option, sym, refl, ◌∙◌, lit≤}
 use Rattle.disk.specs.Sectors.{DiskState}
 use Rattle.failing.specs.declared.manner.Manner.{Manner}
 use Rattle.sheet.specs.Twins.{Both, Standing, on-first, Leaves, Fetches}
-use Rattle.sheet.specs.Surveys.{marks, Surveys}
+use Rattle.sheet.specs.Surveys.{Surveys}
 use Rattle.sheet.proofs.Standing.{one-standing}
 use Rattle.sheet.proofs.TwinCuts.{both-doubled}
 use Rattle.boxcheck.specs.Trials.{Tells, Told}
@@ -11,10 +11,7 @@ use Rattle.boxcheck.specs.declared.trials.Came.{Came}
 
 -- What is read once more is what was read back.
 once-more : (new was back got : List ℕ) (d m : DiskState) (s : ℕ) (cut : Option ℕ) → Leaves 2 4 new d was (Ok cut) m back → Standing 2 4 m s got → got ≡ back
-once-more new was back got d m s None left stands =
-    let same = one-standing 2 4 m s 2 got new stands (on-first refl (both-doubled 2 4 (lit≤ tt) new d m left.0).0) in
-    let is = left.1 in
-    cc
+once-more new was back got d m s None left stands = one-standing 2 4 m s 2 got new stands (on-first refl (both-doubled 2 4 (lit≤ tt) new d m left.0).0) ∙ sym left.1
 once-more new was back got d m s (Some t) left stands = one-standing 2 4 m s left.2.0 got back stands left.2.1
 
 module _ (old new was back got : List ℕ) (manner : Manner) (d m f e : DiskState) (cut : Option ℕ) where
@@ -33,7 +30,7 @@ module _ (old new was back got : List ℕ) (manner : Manner) (d m f e : DiskStat
     both = both;
     left = left;
     chosen = refl;
-    readable = surveyed.2 ∙ ap (λ (x : DiskState). marks 1 x.sectors) fetched.2;
+    readable = cc;
     came = tells;
-    source = subst (λ (sheet : List ℕ). Standing 2 4 m source sheet) (once-more new was back got d m source cut left fetched.1) fetched.1;
+    source = rw (once-more new was back got d m source cut left fetched.1) at fetched.1;
   }
