@@ -1,7 +1,7 @@
 // The records of a register: the items of its root, and the entries of its leaves.
 ghost use Rattle.std.specs.Prelude.{◌≡◌, ◌+◌, ◌≤◌, length, take, drop};
 ghost use Rattle.pages.specs.Records.{item_bytes, item_of, ItemFit, entry_bytes, entry_of, EntryFit};
-ghost use Rattle.pages.specs.Fields.{item-long, item_back, item-fits, entry-long, entry-back, entry-fits};
+ghost use Rattle.pages.specs.Fields.{item-long, item-back, item-fits, entry-long, entry-back, entry-fits};
 
 use crate::stored::Stored;
 use rows::keyed::Keyed;
@@ -78,7 +78,7 @@ impl Stored for Item {
 
     ghost long = { item-long };
 
-    ghost back = { item_back };
+    ghost back = { item-back };
 
     ghost fits = { item-fits };
 

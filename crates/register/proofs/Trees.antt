@@ -16,7 +16,7 @@ use Rattle.tree.specs.Tree.{Node, node, pages, entries, Shape}
 use Rattle.pages.specs.Bytes.{records_of}
 use Rattle.pages.specs.Records.{item_bytes, item_of, ItemFit, entry_bytes, entry_of, EntryFit}
 use Rattle.pages.proofs.Reread.{page-back}
-use Rattle.pages.specs.Fields.{entry-long, entry-back, item-long, item_back}
+use Rattle.pages.specs.Fields.{entry-long, entry-back, item-long, item-back}
 use Rattle.pages.specs.Writes.{PageWrite, imaged}
 use Rattle.pages.specs.declared.records.Item.{Item}
 use Rattle.pages.specs.declared.records.Entry.{Entry}
@@ -98,7 +98,7 @@ pub tree-register : (P : ℕ) (images : List (List ℕ)) (t : Tree) → 2 ≤ P 
 tree-register P images t least most all h g =
     let f = items-good P most t (separators-long (items_for t) g.separators) g.shape.range in
     let few : length (items_for t) ≤ 20 = omega (arith, g.shape.few, length-map t item_for) in
-    let is : items_of images ≡ items_for t = ap (records_of item_of 24 20) h.root ∙ page-back item_bytes item_of 24 ItemFit item-long item_back 82 20 (items_for t) f few (omega arith) (omega arith) in
+    let is : items_of images ≡ items_for t = ap (records_of item_of 24 20) h.root ∙ page-back item_bytes item_of 24 ItemFit item-long item-back 82 20 (items_for t) f few (omega arith) (omega arith) in
     let e : tree_of images ≡ t = ap (map (node_of images)) is ∙ nodes-read images t (leaves-read images t h.leaves (all-entries EntryFit t g.fit) g.shape.sizes) in (
       record {
         least = least;
