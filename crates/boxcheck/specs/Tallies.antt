@@ -1,4 +1,5 @@
 -- Counting the trials by what came back. A count stops at the largest number of 32 bits.
+--     more         a count after one trial more
 --     added        one trial more
 --     all_good     nothing but the two sheets came back
 use Rattle.std.specs.Prelude.{ℕ, ◌+◌, min, Bool, ◌==◌}

@@ -14,6 +14,7 @@ pub struct Tally {
 
 impl Tally {
     /// One trial more.
+    // Each arm counts for itself: a match that picks the field by `&mut` is no shorter, and the check does not find its proof alone.
     pub fn add(&mut self, came: Came)
         ensures { self.exit.now ≡ added came self.entry.now }
     {
