@@ -19,7 +19,7 @@ fn key_of(text: &[u8], number: u16) -> Result<Key, Refusal> {
 fn bytes(rt: HostRuntime) -> Result<(), Fail> {
     let key = key_of(b"R5", 9999)?;
     assert!(rt; key.bytes == *b"R5\0\0\0\0\0\0\0\0\0\0\0\0\0\0\0\0\0\0\x27\x0f");
-    assert_eq!(rt; key.version(), 9999);
+    assert_eq!(rt; key.version().number, 9999);
     assert_eq!(rt; key.name(), Name::new(b"R5")?);
     assert_eq!(rt; Key::from_bytes(&key.bytes), Some(key));
     assert_eq!(rt; Key::from_bytes(&[0; 22]), None);

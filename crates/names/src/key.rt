@@ -4,7 +4,7 @@ ghost use Rattle.names.specs.Names.{GoodName, filled, is_key, is_byte_key, two_b
 ghost use Rattle.names.specs.Orders.{before, Total};
 ghost use Rattle.names.specs.Versions.{InRange};
 
-use crate::name::{Name, is_name};
+use crate::name::Name;
 use crate::version::Version;
 use std::fmt;
 
@@ -36,23 +36,22 @@ impl Key {
     }
 
     /// The key in these bytes, if they are one.
-    // An Option, as of `Name::from_bytes`: one reason only, so None says it all.
+    // An Option, as of `Name::from_bytes`, and for the reason that stands there.
     pub fn from_bytes(bytes: &[u8; 22]) -> Option<Key>
         ensures { elim result [ Some k ↦ (is_key bytes.now ≡ true) × (k.bytes ≡ bytes.now) | None ↦ is_key bytes.now ≡ false ] }
     {
-        if is_name(bytes.first_chunk().unwrap()) && Version::new(version_of(bytes)).is_some() {
-            Some(Key { bytes: *bytes })
-        } else {
-            None
-        }
+        Name::from_bytes(bytes.first_chunk().unwrap())?;
+        Version::new(version_of(bytes))?;
+        Some(Key { bytes: *bytes })
     }
 
-    /// The number of the key's version.
-    pub fn version(&self) -> u16
-        ensures value { result ≡ version_of self.now.bytes }
-        ensures good { InRange result }
+    /// The key's version.
+    pub fn version(&self) -> Version
+        ensures { result.number ≡ version_of self.now.bytes }
     {
-        version_of(&self.bytes)
+        Version {
+            number: version_of(&self.bytes),
+        }
     }
 
     /// The key's name.
@@ -80,7 +79,7 @@ impl fmt::Display for Key {
 
     fn fmt<W: fmt::Write>(&self, f: &mut fmt::Formatter<W>) -> fmt::Result {
         let name = self.name();
-        let version = self.version();
+        let version = self.version().number;
         write!(f, "{name}.{version}")
     }
 }

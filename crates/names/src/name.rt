@@ -30,7 +30,7 @@ impl Name {
     }
 
     /// The name that is stored in these bytes, if they are one: a good text, filled up.
-    // An Option and no TryFrom, as `NonZero::new`: bytes are turned down for one reason only, and there is no number of a refusal for it.
+    // An Option and no Result: what it means that bytes are no name differs by who asks. In a page of a register it breaks a rule (13), in a sector it says that the sector is no leader.
     pub fn from_bytes(bytes: &[u8; 20]) -> Option<Name>
         ensures { elim result [ Some n ↦ (is_name bytes.now ≡ true) × (n.bytes ≡ bytes.now) × HasText bytes.now | None ↦ is_name bytes.now ≡ false ] }
     {
@@ -63,7 +63,7 @@ impl fmt::Display for Name {
 }
 
 // Whether these bytes are a stored name.
-pub(crate) fn is_name(bytes: &[u8; 20]) -> bool
+fn is_name(bytes: &[u8; 20]) -> bool
     ensures { result ≡ is_name bytes.now }
 {
     is_letter(bytes[0]) && letters_then_zeros(bytes)

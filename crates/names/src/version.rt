@@ -17,7 +17,7 @@ pub struct Version {
 
 impl Version {
     /// The version with this number, if there is one.
-    // An Option, as of `NonZero::new`: one reason only, so None says it all.
+    // An Option, as of `NonZero::new`: what a number that is no version means differs by who asks. After the highest it is 4, in stored bytes it says that they are no key.
     pub fn new(number: u16) -> Option<Version>
         ensures { elim result [ Some v ↦ InRange number × (v.number ≡ number) | None ↦ (InRange number → ⊥) ] }
     {
@@ -39,11 +39,6 @@ impl Version {
     pub fn next(self) -> Result<Version, Refusal>
         ensures { elim result [ Ok v ↦ (self.number < highest) × (v.number ≡ self.number + 1) | Err x ↦ (self.number ≡ highest) × (x ≡ VersionAbove) ] }
     {
-        if self.number == HIGHEST {
-            return Err(Refusal::VersionAbove);
-        }
-        Ok(Version {
-            number: self.number + 1,
-        })
+        Version::new(self.number + 1).ok_or(Refusal::VersionAbove)
     }
 }
