@@ -3,6 +3,7 @@
 --     second-answers       the first copy is written, and the second write answers
 --     restarted            the disk was started after a cut
 --     restart-refused      that start was refused
+--     writes, restarts     these, which the check takes up by itself
 use Rattle.std.proofs.Common.{◌≡◌, ℕ, ◌<◌, false, List, length, set, Some, Ok, Err, sym, ap, ◌∙◌, subst, arith}
 use Rattle.std.proofs.lemmas.List.{length-set}
 use Rattle.disk.specs.Sectors.{Sector, holds, DiskState, count}
@@ -61,3 +62,7 @@ module _ (first second : ℕ) (new : List ℕ) where
     restart-refused (PowerOff p) h = (h.0, h.1, (s, cut-there h.2))
     restart-refused (Unreadable p) h = h
     restart-refused NoSuchSector h = absurd h
+
+pub ruleset writes = (first-refused, second-answers)
+
+pub ruleset restarts = (restarted, restart-refused)

@@ -6,6 +6,7 @@ use disk::disks::Disk;
 use disk::faults::Fault;
 
 /// Whether a sector can be read. Refused with 9 or 16, as a read is.
+// Not by `probe` of `failing`: a sheet is used without a disk that fails, and `probe` answers a `Result`, whose match would have the same three arms.
 pub fn can_read<D: Disk>(disk: &mut D, sector: u32) -> Result<bool, Fault>
     ensures rule { Looks sector (D.state disk.old) result (D.state disk.new) }
     ensures same { D.layers disk.new ≡ D.layers disk.old }

@@ -16,6 +16,7 @@ pub struct Copies {
 
 impl Copies {
     // Writes the first copy and then the second.
+    #[tactic(auto, using(crate::proofs::TwinWrites::writes))]
     fn write<D: Disk>(self, disk: &mut D, sheet: &[u8; 512]) -> Result<(), Fault>
         ensures rule { WritesBoth self.first self.second sheet.now (D.state disk.old) result (D.state disk.new) }
         ensures same { D.layers disk.new ≡ D.layers disk.old }
@@ -25,6 +26,7 @@ impl Copies {
     }
 
     // Writes both copies, and starts the disk again where the power was off or failed in the write of one, whose sector it answers.
+    #[tactic(auto, using(crate::proofs::TwinWrites::restarts))]
     fn rewrite<D: Disk>(self, disk: &mut D, sheet: &[u8; 512]) -> Result<Option<u32>, Fault>
         ensures rule { Rewrites self.first self.second sheet.now (D.state disk.old) result (D.state disk.new) }
         ensures same { D.layers disk.new ≡ D.layers disk.old }
