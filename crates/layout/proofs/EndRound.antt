@@ -1,6 +1,6 @@
 -- A record's end comes back from its sector, and from no other.
-use Rattle.std.proofs.Common.{◌≡◌, ℕ, ◌<◌, true, ◌&&◌, List, [], ◌∷◌, ◌++◌, length, get_or, drop, replicate, Some, Option, sym, refl, ap, ◌∙◌, arith}
-use Rattle.layout.specs.Padded.{padded, all_zeros, four_bytes, number4, tag_is, Decodes}
+use Rattle.std.proofs.Common.{◌≡◌, ℕ, ◌<◌, true, ◌&&◌, List, [], ◌∷◌, ◌++◌, length, get_or, drop, replicate, Some, sym, refl, ap, ◌∙◌, arith}
+use Rattle.layout.specs.Padded.{padded, all_zeros, four_bytes, number4, tag_is}
 use Rattle.layout.specs.Ends.{EndFits, encode_end, decode_end}
 use Rattle.layout.specs.declared.end.RecordEnd.{RecordEnd}
 use Rattle.std.proofs.lemmas.Bool.{and_parts}
@@ -10,11 +10,11 @@ use Rattle.layout.proofs.Zeros.{gets, padded-gets, zeros-replicate}
 abbrev made : ℕ → ℕ → RecordEnd
 made group count = record { group = group; count = count }
 
-end-round : (e : RecordEnd) → EndFits e → decode_end (encode_end e) ≡ Some e
+pub end-round : (e : RecordEnd) → EndFits e → decode_end (encode_end e) ≡ Some e
 unfolding padded
 end-round e fits = opened true (all_zeros (replicate 503 0)) _ _ refl (zeros-replicate 503) ∙ ap (λ g. Some (made g e.count)) (four-number e.group fits.0)
 
-end-exact : (s : List ℕ) (e : RecordEnd) → length s ≡ 512 → ((k : ℕ) → get_or s k 0 < 256) → decode_end s ≡ Some e → EndFits e × (s ≡ encode_end e)
+pub end-exact : (s : List ℕ) (e : RecordEnd) → length s ≡ 512 → ((k : ℕ) → get_or s k 0 < 256) → decode_end s ≡ Some e → EndFits e × (s ≡ encode_end e)
 end-exact s e long small is =
     let open-at = was-open (tag_is 70 83 68 69 s && all_zeros (drop 9 s)) _ e is in
     let tests = and_parts (tag_is 70 83 68 69 s) (all_zeros (drop 9 s)) open-at.0 in
@@ -27,9 +27,3 @@ end-exact s e long small is =
       (omega (arith, group, small 4, small 5, small 6, small 7), omega (arith, count, small 8)),
       padded-gets 9 s long (omega arith) tests.1 ∙ ap padded fields,
     )
-
-pub end-decodes : {s : List ℕ} {r : Option RecordEnd} → length s ≡ 512 → ((k : ℕ) → get_or s k 0 < 256) → r ≡ decode_end s → Decodes EndFits encode_end s r
-end-decodes {s} {r} long small is = record {
-  round = λ x fits at. is ∙ ap decode_end at ∙ end-round x fits;
-  exact = λ x e. end-exact s x long small (sym is ∙ e);
-}

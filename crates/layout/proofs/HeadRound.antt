@@ -1,8 +1,8 @@
 -- A record's head comes back from its sector, and from no other.
-use Rattle.std.proofs.Common.{◌≡◌, ℕ, ◌-◌, ◌<◌, ◌≤◌, true, ◌&&◌, leb, List, [], ◌∷◌, ◌++◌, length, get_or, take, drop, replicate, Some, Option, sym, ap, ◌∙◌, ap₂, arith, take-add}
+use Rattle.std.proofs.Common.{◌≡◌, ℕ, ◌-◌, ◌<◌, ◌≤◌, true, ◌&&◌, leb, List, [], ◌∷◌, ◌++◌, length, get_or, take, drop, replicate, Some, sym, ap, ◌∙◌, ap₂, arith, take-add}
 use Rattle.std.proofs.lemmas.List.{take_at, drop_at, drop-drop, length-drop, length-take}
 use Rattle.std.proofs.lemmas.Bool.Decides.{nat_tests}
-use Rattle.layout.specs.Padded.{padded, all_zeros, four_bytes, number4, tag_is, Decodes}
+use Rattle.layout.specs.Padded.{padded, all_zeros, four_bytes, number4, tag_is}
 use Rattle.layout.specs.Heads.{good_pages, HeadFits, encode_head, head_of, decode_head}
 use Rattle.layout.specs.declared.head.RecordHead.{RecordHead}
 use Rattle.std.proofs.lemmas.Bool.{and_parts}
@@ -16,7 +16,7 @@ head-is : (limit group count : ℕ) (rest : List ℕ) → all_zeros (drop 21 res
     → head_of limit group count rest ≡ Some (made group count (take 21 rest))
 head-is limit group count rest z one good = grind (arith, nat_tests)
 
-head-round : (limit : ℕ) (h : RecordHead) → HeadFits limit h → decode_head limit (encode_head h) ≡ Some h
+pub head-round : (limit : ℕ) (h : RecordHead) → HeadFits limit h → decode_head limit (encode_head h) ≡ Some h
 unfolding padded
 head-round limit h fits =
     let z = replicate (512 - length (70 ∷ 83 ∷ 68 ∷ 72 ∷ (four_bytes h.group ++ h.count ∷ h.pages))) 0 in
@@ -30,7 +30,7 @@ head-round limit h fits =
 thirty : (s : List ℕ) → length s ≡ 512 → take 30 s ≡ gets 9 0 s ++ take 21 (drop 9 s)
 thirty s long = take-add 9 21 s ∙ ap (λ l. l ++ take 21 (drop 9 s)) (gets-take 9 0 s (omega arith))
 
-head-exact : (limit : ℕ) (s : List ℕ) (h : RecordHead) → length s ≡ 512 → ((k : ℕ) → get_or s k 0 < 256) → decode_head limit s ≡ Some h → HeadFits limit h × (s ≡ encode_head h)
+pub head-exact : (limit : ℕ) (s : List ℕ) (h : RecordHead) → length s ≡ 512 → ((k : ℕ) → get_or s k 0 < 256) → decode_head limit s ≡ Some h → HeadFits limit h × (s ≡ encode_head h)
 head-exact limit s h long small is =
     let open-at = was-open (tag_is 70 83 68 72 s) _ h is in
     let letters = tag-letters 70 83 68 72 s open-at.0 in
@@ -55,9 +55,3 @@ head-exact limit s h long small is =
       ),
       padded-front 30 s long (omega arith) zeros ∙ ap padded (thirty s long ∙ ap₂ (λ a b. a ++ b) fields (sym pages)),
     )
-
-pub head-decodes : (limit : ℕ) {s : List ℕ} {r : Option RecordHead} → length s ≡ 512 → ((k : ℕ) → get_or s k 0 < 256) → r ≡ decode_head limit s → Decodes (HeadFits limit) encode_head s r
-head-decodes limit {s} {r} long small is = record {
-  round = λ x fits at. is ∙ ap (decode_head limit) at ∙ head-round limit x fits;
-  exact = λ x e. head-exact limit s x long small (sym is ∙ e);
-}

@@ -1,8 +1,8 @@
 -- A header comes back from its sector, and from no other.
-use Rattle.std.proofs.Common.{◌≡◌, ℕ, ◌+◌, ◌*◌, ◌^◌, ◌<◌, true, ◌&&◌, eqb, leb, List, ◌∷◌, ◌++◌, length, get_or, drop, replicate, Some, Option, sym, refl, ap, ◌∙◌, ap₂, arith}
+use Rattle.std.proofs.Common.{◌≡◌, ℕ, ◌+◌, ◌*◌, ◌^◌, ◌<◌, true, ◌&&◌, eqb, leb, List, ◌∷◌, ◌++◌, length, get_or, drop, replicate, Some, sym, refl, ap, ◌∙◌, ap₂, arith}
 use Rattle.std.proofs.lemmas.Bool.Decides.{nat_tests, Decides-eqb}
 use Rattle.geometry.specs.Places.{Good}
-use Rattle.layout.specs.Padded.{padded, all_zeros, four_bytes, number4, tag_is, Decodes}
+use Rattle.layout.specs.Padded.{padded, all_zeros, four_bytes, number4, tag_is}
 use Rattle.names.specs.Names.{two_bytes}
 use Rattle.layout.specs.Headers.{HeaderFits, encode_header, good_numbers, header_of, decode_header}
 use Rattle.layout.specs.declared.header.Header.{Header}
@@ -36,7 +36,7 @@ parts count p t n h e =
     let value = open-at.1 in
     (passes-good p t n tests.1, (Decides-eqb n count).0 tests.0, cc)
 
-header-round : (count : ℕ) (h : Header) → HeaderFits count h → decode_header count (encode_header h) ≡ Some h
+pub header-round : (count : ℕ) (h : Header) → HeaderFits count h → decode_header count (encode_header h) ≡ Some h
 unfolding padded
 header-round count h fits =
     let p = h.pages in
@@ -46,7 +46,7 @@ header-round count h fits =
     ∙ ap₂ (λ t n. header_of count p t n) (two-number h.third third) (four-number h.sectors sectors)
     ∙ right-numbers count p h.third h.sectors fits.1 fits.0
 
-header-exact : (count : ℕ) (s : List ℕ) (h : Header) → length s ≡ 512 → ((k : ℕ) → get_or s k 0 < 256) → decode_header count s ≡ Some h
+pub header-exact : (count : ℕ) (s : List ℕ) (h : Header) → length s ≡ 512 → ((k : ℕ) → get_or s k 0 < 256) → decode_header count s ≡ Some h
     → HeaderFits count h × (s ≡ encode_header h)
 header-exact count s h long small is =
     let open-at = was-open (tag_is 70 83 68 86 s && (eqb (get_or s 4 0) 1 && all_zeros (drop 12 s))) _ h is in
@@ -72,9 +72,3 @@ header-exact count s h long small is =
       ),
       padded-gets 12 s long (omega arith) more.1 ∙ ap padded fields,
     )
-
-pub header-decodes : (count : ℕ) {s : List ℕ} {r : Option Header} → length s ≡ 512 → ((k : ℕ) → get_or s k 0 < 256) → r ≡ decode_header count s → Decodes (HeaderFits count) encode_header s r
-header-decodes count {s} {r} long small is = record {
-  round = λ x fits at. is ∙ ap (decode_header count) at ∙ header-round count x fits;
-  exact = λ x e. header-exact count s x long small (sym is ∙ e);
-}

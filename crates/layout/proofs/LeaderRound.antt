@@ -1,10 +1,10 @@
 -- A leader comes back from its sector, and from no other.
-use Rattle.std.proofs.Common.{◌≡◌, ℕ, ◌+◌, ◌-◌, ◌/◌, ◌%◌, ◌^◌, ◌<◌, ◌≤◌, true, ◌&&◌, leb, List, [], ◌∷◌, ◌++◌, length, get_or, take, drop, replicate, Some, Option, sym, ap, ◌∙◌, ap₂, arith, take-add}
+use Rattle.std.proofs.Common.{◌≡◌, ℕ, ◌+◌, ◌-◌, ◌/◌, ◌%◌, ◌^◌, ◌<◌, ◌≤◌, true, ◌&&◌, leb, List, [], ◌∷◌, ◌++◌, length, get_or, take, drop, replicate, Some, sym, ap, ◌∙◌, ap₂, arith, take-add}
 use Rattle.std.proofs.lemmas.List.{take_at, drop_at, drop-drop, append_assoc, get_or-append_right, get_or-drop, length-drop}
 use Rattle.std.proofs.lemmas.Bool.Decides.{nat_tests}
 use Rattle.geometry.specs.Sizes.{longest}
 use Rattle.names.specs.Names.{is_key}
-use Rattle.layout.specs.Padded.{padded, all_zeros, four_bytes, tag_is, Decodes}
+use Rattle.layout.specs.Padded.{padded, all_zeros, four_bytes, tag_is}
 use Rattle.layout.specs.Leaders.{LeaderFits, encode_leader, length_of, leader_of, decode_leader}
 use Rattle.layout.specs.declared.leader.Leader.{Leader}
 use Rattle.std.proofs.lemmas.Bool.{and_parts, and_from}
@@ -27,7 +27,7 @@ key-length k h = grind (arith, nat_tests)
 behind : (k xs : List ℕ) (i : ℕ) → length k ≡ 22 → get_or (k ++ xs) (22 + i) 0 ≡ get_or xs i 0
 behind k xs i long = get_or-append_right k xs 22 (22 + i) 0 long (omega arith) ∙ ap (λ j. get_or xs j 0) (omega arith)
 
-leader-round : (l : Leader) → LeaderFits l → decode_leader (encode_leader l) ≡ Some l
+pub leader-round : (l : Leader) → LeaderFits l → decode_leader (encode_leader l) ≡ Some l
 unfolding padded
 leader-round l fits =
     let key = l.key in
@@ -49,7 +49,7 @@ leader-round l fits =
     ∙ leader-is rest zeros (omega (arith, number, fits.1)) (ap is_key front ∙ fits.0)
     ∙ ap₂ (λ k m. Some (made k m)) front number
 
-leader-exact : (s : List ℕ) (l : Leader) → length s ≡ 512 → ((k : ℕ) → get_or s k 0 < 256) → decode_leader s ≡ Some l → LeaderFits l × (s ≡ encode_leader l)
+pub leader-exact : (s : List ℕ) (l : Leader) → length s ≡ 512 → ((k : ℕ) → get_or s k 0 < 256) → decode_leader s ≡ Some l → LeaderFits l × (s ≡ encode_leader l)
 leader-exact s l long small is =
     let open-at = was-open (tag_is 70 83 68 76 s) _ l is in
     let letters = tag-letters 70 83 68 76 s open-at.0 in
@@ -70,9 +70,3 @@ leader-exact s l long small is =
     let front : take 30 s ≡ 70 ∷ 83 ∷ 68 ∷ 76 ∷ (l.key ++ four_bytes l.length) =
     take-add 4 26 s ∙ ap₂ (λ a b. a ++ b) (gets-take 4 0 s (omega arith) ∙ tag) after in
     ((ap is_key key ∙ more.1, omega (arith, size)), padded-front 30 s long (omega arith) zeros ∙ ap padded front)
-
-pub leader-decodes : {s : List ℕ} {r : Option Leader} → length s ≡ 512 → ((k : ℕ) → get_or s k 0 < 256) → r ≡ decode_leader s → Decodes LeaderFits encode_leader s r
-leader-decodes {s} {r} long small is = record {
-  round = λ x fits at. is ∙ ap decode_leader at ∙ leader-round x fits;
-  exact = λ x e. leader-exact s x long small (sym is ∙ e);
-}

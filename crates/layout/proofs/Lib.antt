@@ -1,4 +1,5 @@
 pub mod AnchorRound
+pub mod Decoded
 pub mod EndRound
 pub mod HeadRound
 pub mod HeaderRound
