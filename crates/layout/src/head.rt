@@ -8,7 +8,7 @@ use crate::rest::are_zeros;
 use padding::padded;
 
 /// The group number of a record, how many pages it has, and their numbers. The places after those are zero.
-// The numbers stay in an array with their count beside it: that is the stored form, and the decoder says that the places after them are zero.
+// No list of fixed room in place of the count and the numbers, which would be no plainer: it would have to be made of the 21 stored numbers and turned into them again, and `count` and `pages` are public fields that callers read.
 #[derive(Clone, Copy, PartialEq, Eq, Debug)]
 pub struct RecordHead {
     pub group: u32,
