@@ -1,20 +1,22 @@
 // Good numbers of a volume and bad ones, the places that follow from good ones, and the thirds.
-use crate::refused::refused;
 use geometry::geometry::Geometry;
 use geometry::third::{NoSuchThird, Third};
+use refusal::Refusal;
 use std::process::Abort;
 use std::test::Fail;
 
-// The number of the refusal of these numbers, or 0.
-fn turned_down(pages: u32, third: u32, sectors: u32) -> u8 {
-    refused(Geometry::new(pages, third, sectors))
+// Why these numbers are turned down, if they are.
+fn turned_down(pages: u32, third: u32, sectors: u32) -> Option<Refusal> {
+    Geometry::new(pages, third, sectors).err()
 }
+
+const BAD: Option<Refusal> = Some(Refusal::BadNumbers);
 
 // Checks that these numbers of sectors of a third and of the disk are the least good ones, with so many pages.
 fn least(rt: &impl Abort, pages: u32, third: u32, sectors: u32) {
-    assert_eq!(rt; turned_down(pages, third, sectors), 0);
-    assert_eq!(rt; turned_down(pages, third, sectors.saturating_sub(1)), 15);
-    assert_eq!(rt; turned_down(pages, third.saturating_sub(1), sectors), 15);
+    assert_eq!(rt; turned_down(pages, third, sectors), None);
+    assert_eq!(rt; turned_down(pages, third, sectors.saturating_sub(1)), BAD);
+    assert_eq!(rt; turned_down(pages, third.saturating_sub(1), sectors), BAD);
 }
 
 #[test]
@@ -26,12 +28,12 @@ fn least_numbers(rt: HostRuntime) {
 
 #[test]
 fn greatest_numbers(rt: HostRuntime) {
-    assert_eq!(rt; turned_down(4, 33, 120), 0);
-    assert_eq!(rt; turned_down(4, 34, 120), 15);
-    assert_eq!(rt; turned_down(4, 1000, u32::MAX), 0);
-    assert_eq!(rt; turned_down(4, 1001, u32::MAX), 15);
-    assert_eq!(rt; turned_down(1, 14, 120), 15);
-    assert_eq!(rt; turned_down(22, 60, 9999), 15);
+    assert_eq!(rt; turned_down(4, 33, 120), None);
+    assert_eq!(rt; turned_down(4, 34, 120), BAD);
+    assert_eq!(rt; turned_down(4, 1000, u32::MAX), None);
+    assert_eq!(rt; turned_down(4, 1001, u32::MAX), BAD);
+    assert_eq!(rt; turned_down(1, 14, 120), BAD);
+    assert_eq!(rt; turned_down(22, 60, 9999), BAD);
 }
 
 // Checks the number of a third, and the third after it.
@@ -47,6 +49,13 @@ fn thirds(rt: HostRuntime) {
     third(&rt, Third::One, 1, Third::Two);
     third(&rt, Third::Two, 2, Third::Zero);
     assert_eq!(rt; Third::try_from(3), Err(NoSuchThird(3)));
+}
+
+#[test]
+fn no_such_third(rt: HostRuntime) -> Result<(), Fail> {
+    let text = format!(in rt.alloc(); "{}", NoSuchThird(5))?;
+    assert_eq!(rt; text.as_str(), "no third 5");
+    Ok(())
 }
 
 // A third, its first sector and its last.

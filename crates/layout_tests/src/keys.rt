@@ -1,23 +1,14 @@
 // Keys, their order, and bounds.
-use crate::refused::refused;
 use names::bound::Bound;
 use names::key::Key;
 use names::name::Name;
-use names::version::Version;
 use refusal::Refusal;
 use std::process::Abort;
 use std::test::Fail;
 
-// The key of a name and a version, or why there is none.
-fn key_of(text: &[u8], number: u16) -> Result<Key, Refusal> {
-    let name = Name::new(text)?;
-    let version = Version::new(number).ok_or(Refusal::VersionAbove)?;
-    Ok(Key::new(&name, version))
-}
-
 #[test]
 fn bytes(rt: HostRuntime) -> Result<(), Fail> {
-    let key = key_of(b"R5", 9999)?;
+    let key = Key::of(b"R5", 9999).ok_or("no key")?;
     assert!(rt; key.bytes == *b"R5\0\0\0\0\0\0\0\0\0\0\0\0\0\0\0\0\0\0\x27\x0f");
     assert_eq!(rt; key.version().number, 9999);
     assert_eq!(rt; key.name(), Name::new(b"R5")?);
@@ -39,28 +30,34 @@ const ORDER: [Row; 7] = [
     (b"R5", 255, b"R5", 256),
 ];
 
-fn check_rows(rt: &impl Abort, rows: &[Row]) -> Result<(), Fail> {
-    for (i, (first, one, second, other)) in rows.iter().enumerate() {
-        let low = key_of(first, *one)?;
-        let high = key_of(second, *other)?;
-        assert!(rt; low.before(&high), "{}", i);
-        assert!(rt; !high.before(&low), "{}", i);
-        assert!(rt; !low.before(&low), "{}", i);
+#[test]
+fn order(rt: HostRuntime) -> Result<(), Fail> {
+    for (first, one, second, other) in ORDER {
+        let low = Key::of(first, one).ok_or("no key")?;
+        let high = Key::of(second, other).ok_or("no key")?;
+        assert!(rt; low.before(&high), "{low} {high}");
+        assert!(rt; !high.before(&low), "{low} {high}");
+        assert!(rt; !low.before(&low), "{low}");
     }
     Ok(())
 }
 
 #[test]
-fn order(rt: HostRuntime) -> Result<(), Fail> {
-    check_rows(&rt, &ORDER)
+fn of_texts(rt: HostRuntime) -> Result<(), Fail> {
+    let key = Key::of(b"R-10", 12).ok_or("no key")?;
+    let text = format!(in rt.alloc(); "{key}")?;
+    assert_eq!(rt; text.as_str(), "R-10.12");
+    assert_eq!(rt; Key::of(b"r5", 1), None);
+    assert_eq!(rt; Key::of(b"R5", 0), None);
+    Ok(())
 }
 
 #[test]
 fn bounds(rt: HostRuntime) -> Result<(), Fail> {
     assert!(rt; Bound::lowest().bytes == [0; 22]);
     assert!(rt; Bound::new(b"", 0)?.bytes == [0; 22]);
-    assert!(rt; Bound::new(b"R5", 1)?.bytes == key_of(b"R5", 1)?.bytes);
-    assert_eq!(rt; refused(Bound::new(b"R5", u16::MAX)), 0);
-    assert_eq!(rt; refused(Bound::new(b"r5", 1)), 2);
+    assert!(rt; Bound::new(b"R5", 1)?.bytes == Key::of(b"R5", 1).ok_or("no key")?.bytes);
+    assert_eq!(rt; Bound::new(b"R5", u16::MAX).err(), None);
+    assert_eq!(rt; Bound::new(b"r5", 1), Err(Refusal::BadName));
     Ok(())
 }

@@ -1,7 +1,8 @@
 // Which keys and lengths a leader may hold.
-use crate::kinds::{is_right, sector_of};
+use crate::kinds::is_right;
 use layout::carried::Carried;
 use layout::leader::Leader;
+use padding::padded;
 use std::process::Abort;
 
 // The text of a name, a version, a length, and whether the leader with these is right.
@@ -24,22 +25,22 @@ const ROWS: [Row; 13] = [
 ];
 
 // The leader with these numbers, good or not.
+// Not by `Key::of`, which makes no key of a bad name or version.
 fn leader_of(name: &[u8], version: u16, length: u32) -> Leader {
-    let mut key = [0; 22];
-    key[..20].copy_from_slice(&sector_of(name)[..20]);
+    let mut key: [u8; 22] = padded(&name[..name.len().min(20)]);
     key[20..].copy_from_slice(&version.to_be_bytes());
     Leader { key, length }
 }
 
-fn check_rows(rt: &impl Abort, rows: &[Row]) {
-    for (i, (name, version, length, right)) in rows.iter().enumerate() {
-        let mut sector = [0; 512];
-        leader_of(name, *version, *length).encode(&mut sector);
-        assert_eq!(rt; is_right::<Leader>(&sector, ()), *right, "{}", i);
-    }
-}
-
 #[test]
 fn keys_and_lengths(rt: HostRuntime) {
-    check_rows(&rt, &ROWS);
+    for (name, version, length, right) in ROWS {
+        let mut sector = [0; 512];
+        leader_of(name, version, length).encode(&mut sector);
+        assert_eq!(rt;
+            is_right::<Leader>(&sector, ()),
+            right,
+            "{name:?} {version} {length}"
+        );
+    }
 }

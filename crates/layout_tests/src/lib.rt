@@ -14,8 +14,6 @@ mod naming;
 #[cfg(test)]
 mod ranges;
 #[cfg(test)]
-mod refused;
-#[cfg(test)]
 mod sizes;
 #[cfg(test)]
 mod worked;

@@ -1,41 +1,38 @@
 // Which texts are names, which numbers are versions, and how names are stored.
-use crate::refused::refused;
 use names::name::Name;
 use names::version::Version;
 use refusal::Refusal;
 use std::process::Abort;
 use std::test::Fail;
 
-// A text, and the number of the refusal of it as a name, or 0.
-type Row = (&'static [u8], u8);
+const BAD: Option<Refusal> = Some(Refusal::BadName);
+
+// A text, and why it is turned down as a name, if it is.
+type Row = (&'static [u8], Option<Refusal>);
 
 const TEXTS: [Row; 15] = [
-    (b"A", 0),
-    (b"-", 0),
-    (b"R-10", 0),
-    (b"AZ09-", 0),
-    (b"ABCDEFGHIJKLMNOPQRST", 0),
-    (b"ABCDEFGHIJKLMNOPQRSTU", 2),
-    (b"", 2),
-    (b"r5", 2),
-    (b"R 5", 2),
-    (b"R5\0", 2),
-    (b"R/5", 2),
-    (b"R:5", 2),
-    (b"R@5", 2),
-    (b"R[5", 2),
-    (b"R\xc15", 2),
+    (b"A", None),
+    (b"-", None),
+    (b"R-10", None),
+    (b"AZ09-", None),
+    (b"ABCDEFGHIJKLMNOPQRST", None),
+    (b"ABCDEFGHIJKLMNOPQRSTU", BAD),
+    (b"", BAD),
+    (b"r5", BAD),
+    (b"R 5", BAD),
+    (b"R5\0", BAD),
+    (b"R/5", BAD),
+    (b"R:5", BAD),
+    (b"R@5", BAD),
+    (b"R[5", BAD),
+    (b"R\xc15", BAD),
 ];
-
-fn check_rows(rt: &impl Abort, rows: &[Row]) {
-    for (i, (text, number)) in rows.iter().enumerate() {
-        assert_eq!(rt; refused(Name::new(text)), *number, "{}", i);
-    }
-}
 
 #[test]
 fn texts(rt: HostRuntime) {
-    check_rows(&rt, &TEXTS);
+    for (text, refusal) in TEXTS {
+        assert_eq!(rt; Name::new(text).err(), refusal, "{text:?}");
+    }
 }
 
 #[test]
@@ -52,12 +49,21 @@ fn stored(rt: HostRuntime) -> Result<(), Fail> {
 }
 
 #[test]
+fn printed(rt: HostRuntime) -> Result<(), Fail> {
+    let name = Name::new(b"R-10")?;
+    assert_eq!(rt; name.text(), "R-10");
+    let text = format!(in rt.alloc(); "{name} {name:>6}")?;
+    assert_eq!(rt; text.as_str(), "R-10   R-10");
+    Ok(())
+}
+
+#[test]
 fn versions(rt: HostRuntime) -> Result<(), Fail> {
     assert_eq!(rt; Version::first().number, 1);
     assert_eq!(rt; Version::new(0), None);
     assert_eq!(rt; Version::new(10000), None);
     let last = Version::new(9998).ok_or(Refusal::VersionAbove)?.next()?;
     assert_eq!(rt; last.number, 9999);
-    assert_eq!(rt; refused(last.next()), 4);
+    assert_eq!(rt; last.next(), Err(Refusal::VersionAbove));
     Ok(())
 }

@@ -12,8 +12,12 @@ use std::process::Abort;
 type Row<K> = (K, &'static [u8], bool);
 
 fn check_rows<C: Carried + Drop>(rt: &impl Abort, rows: &[Row<C::Known>]) {
-    for (i, (known, fields, right)) in rows.iter().enumerate() {
-        assert_eq!(rt; is_right::<C>(&sector_of(fields), *known), *right, "{}", i);
+    for (known, fields, right) in rows {
+        assert_eq!(rt;
+            is_right::<C>(&sector_of(fields), *known),
+            *right,
+            "{fields:?}"
+        );
     }
 }
 
@@ -102,32 +106,26 @@ fn kinds_of(fields: &[u8]) -> usize {
     kinds.iter().filter(|right| **right).count()
 }
 
-const OF_NONE: [&[u8]; 5] = [
-    b"",
-    b"NR",
-    b"NL",
-    b"NRDV\x01\x04\0\x0e\0\0\0\x78",
-    b"NLDA\0\0\0\0\x02",
+// The bytes that a sector begins with, and how many kinds it is right as.
+const KINDS: [(&[u8], usize); 10] = [
+    (b"", 0),
+    (b"NR", 0),
+    (b"NL", 0),
+    (b"NRDV\x01\x04\0\x0e\0\0\0\x78", 0),
+    (b"NLDA\0\0\0\0\x02", 0),
+    (b"FSDV\x01\x04\0\x0e\0\0\0\x78", 1),
+    (b"FSDA\0\0\0\0\x02", 1),
+    (b"FSDH\0\0\0\x02\x01\x01", 1),
+    (b"FSDE\0\0\0\x02\x01", 1),
+    (
+        b"FSDLR5\0\0\0\0\0\0\0\0\0\0\0\0\0\0\0\0\0\0\0\x01\0\0\0\x28",
+        1,
+    ),
 ];
 
 #[test]
-fn of_no_kind(rt: HostRuntime) {
-    for fields in OF_NONE {
-        assert_eq!(rt; kinds_of(fields), 0);
-    }
-}
-
-const OF_ONE: [&[u8]; 5] = [
-    b"FSDV\x01\x04\0\x0e\0\0\0\x78",
-    b"FSDA\0\0\0\0\x02",
-    b"FSDH\0\0\0\x02\x01\x01",
-    b"FSDE\0\0\0\x02\x01",
-    b"FSDLR5\0\0\0\0\0\0\0\0\0\0\0\0\0\0\0\0\0\0\0\x01\0\0\0\x28",
-];
-
-#[test]
-fn of_one_kind(rt: HostRuntime) {
-    for fields in OF_ONE {
-        assert_eq!(rt; kinds_of(fields), 1);
+fn of_no_kind_or_one(rt: HostRuntime) {
+    for (fields, kinds) in KINDS {
+        assert_eq!(rt; kinds_of(fields), kinds, "{fields:?}");
     }
 }

@@ -1,8 +1,7 @@
 // The sectors of files and of records.
-use crate::refused::refused;
 use geometry::sizes::{data_sectors, extent_sectors, record_sectors};
+use refusal::Refusal;
 use std::process::Abort;
-use std::test::Fail;
 
 // The bytes of a file, its data sectors, and the sectors of its extent.
 type Row = (u32, u32, u32);
@@ -18,24 +17,19 @@ const FILES: [Row; 8] = [
     (8192, 16, 18),
 ];
 
-fn check_rows(rt: &impl Abort, rows: &[Row]) -> Result<(), Fail> {
-    for (i, (bytes, data, extent)) in rows.iter().enumerate() {
-        assert_eq!(rt; data_sectors(*bytes)?, *data, "{}", i);
-        assert_eq!(rt; extent_sectors(*bytes)?, *extent, "{}", i);
-    }
-    Ok(())
-}
-
 #[test]
-fn files(rt: HostRuntime) -> Result<(), Fail> {
-    check_rows(&rt, &FILES)
+fn files(rt: HostRuntime) {
+    for (bytes, data, extent) in FILES {
+        assert_eq!(rt; data_sectors(bytes), Ok(data), "{bytes}");
+        assert_eq!(rt; extent_sectors(bytes), Ok(extent), "{bytes}");
+    }
 }
 
 #[test]
 fn too_long(rt: HostRuntime) {
-    assert_eq!(rt; refused(data_sectors(8193)), 3);
-    assert_eq!(rt; refused(extent_sectors(8193)), 3);
-    assert_eq!(rt; refused(data_sectors(u32::MAX)), 3);
+    assert_eq!(rt; data_sectors(8193), Err(Refusal::TooLong));
+    assert_eq!(rt; extent_sectors(8193), Err(Refusal::TooLong));
+    assert_eq!(rt; data_sectors(u32::MAX), Err(Refusal::TooLong));
 }
 
 #[test]

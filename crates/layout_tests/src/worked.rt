@@ -53,16 +53,23 @@ fn headers(rt: HostRuntime) {
     both_ways(&rt, large, 66051, b"FSDV\x01\x15\x03\xe8\0\x01\x02\x03");
 }
 
-// Checks the sector of an anchor both ways.
-fn anchor(rt: &impl Abort, third: Third, group: u32, fields: &[u8]) {
-    both_ways(rt, Anchor { third, group }, (), fields);
-}
-
 #[test]
 fn anchors(rt: HostRuntime) {
-    anchor(&rt, Third::Zero, 2, b"FSDA\0\0\0\0\x02");
-    anchor(&rt, Third::One, 0x01020304, b"FSDA\x01\x01\x02\x03\x04");
-    anchor(&rt, Third::Two, u32::MAX, b"FSDA\x02\xff\xff\xff\xff");
+    let first = Anchor {
+        third: Third::Zero,
+        group: 2,
+    };
+    both_ways(&rt, first, (), b"FSDA\0\0\0\0\x02");
+    let second = Anchor {
+        third: Third::One,
+        group: 0x01020304,
+    };
+    both_ways(&rt, second, (), b"FSDA\x01\x01\x02\x03\x04");
+    let last = Anchor {
+        third: Third::Two,
+        group: u32::MAX,
+    };
+    both_ways(&rt, last, (), b"FSDA\x02\xff\xff\xff\xff");
 }
 
 #[test]
@@ -84,34 +91,32 @@ fn heads(rt: HostRuntime) {
     both_ways(&rt, two, 4, b"FSDH\x01\x02\x03\x04\x02\x01\x03");
 }
 
-// Checks the sector of an end both ways.
-fn end(rt: &impl Abort, group: u32, count: u8, fields: &[u8]) {
-    both_ways(rt, RecordEnd { group, count }, (), fields);
-}
-
 #[test]
 fn ends(rt: HostRuntime) {
-    end(&rt, 2, 1, b"FSDE\0\0\0\x02\x01");
-    end(&rt, 0x01020304, 21, b"FSDE\x01\x02\x03\x04\x15");
-}
-
-// Checks the sector of a leader both ways.
-fn leader(rt: &impl Abort, key: &[u8; 22], length: u32, fields: &[u8]) {
-    both_ways(rt, Leader { key: *key, length }, (), fields);
+    let small = RecordEnd { group: 2, count: 1 };
+    both_ways(&rt, small, (), b"FSDE\0\0\0\x02\x01");
+    let large = RecordEnd {
+        group: 0x01020304,
+        count: 21,
+    };
+    both_ways(&rt, large, (), b"FSDE\x01\x02\x03\x04\x15");
 }
 
 #[test]
 fn leaders(rt: HostRuntime) {
-    leader(
+    let short = Leader {
+        key: *b"R5\0\0\0\0\0\0\0\0\0\0\0\0\0\0\0\0\0\0\0\x01",
+        length: 40,
+    };
+    both_ways(
         &rt,
-        b"R5\0\0\0\0\0\0\0\0\0\0\0\0\0\0\0\0\0\0\0\x01",
-        40,
+        short,
+        (),
         b"FSDLR5\0\0\0\0\0\0\0\0\0\0\0\0\0\0\0\0\0\0\0\x01\0\0\0\x28",
     );
-    leader(
-        &rt,
-        b"ABCDEFGHIJKLMNOPQRST\x27\x0f",
-        8192,
-        b"FSDLABCDEFGHIJKLMNOPQRST\x27\x0f\0\0\x20\0",
-    );
+    let long = Leader {
+        key: *b"ABCDEFGHIJKLMNOPQRST\x27\x0f",
+        length: 8192,
+    };
+    both_ways(&rt, long, (), b"FSDLABCDEFGHIJKLMNOPQRST\x27\x0f\0\0\x20\0");
 }
