@@ -10,10 +10,11 @@ mod trials;
 
 use crate::lines::{Line, Places};
 use crate::tally::Tally;
-use crate::trials::{Came, Failure, MANNERS, Sheets, Stopped};
+use crate::trials::{Came, Failure, Sheets, Stopped};
 use anyhow::{Context, ensure};
 use cases::worked_cases;
 use disk::disks::Disk;
+use failing::manner::Manner;
 use geometry::geometry::Geometry;
 use image::Image;
 use layout::tagged::{Tagged, tag_of};
@@ -80,7 +81,7 @@ fn run(rt: &HostRuntime) -> anyhow::Result<bool> {
     let sheets = Sheets { old, new };
     let mut tally = Tally::default();
     for calls in 0..2u32 {
-        for manner in MANNERS {
+        for manner in Manner::ALL {
             tally.add(show(rt, &sheets, Failure { calls, manner })?);
         }
     }

@@ -12,14 +12,6 @@ use std::alloc::{AllocError, Global};
 use thiserror::Error;
 use window::Window;
 
-pub const MANNERS: [Manner; 5] = [
-    Manner::AsBefore,
-    Manner::NewBytes,
-    Manner::Own,
-    Manner::OwnAndBelow,
-    Manner::OwnAndAbove,
-];
-
 const SECTORS: usize = 16;
 
 const FIRST: u32 = 2;
