@@ -1,6 +1,6 @@
 -- The pages of a fresh volume, written one after another.
 --     other-fresh      a page that is neither the root nor the first leaf
---     fresh-step, fresh-more       one page more
+--     fresh-more       one page more, whatever is written to it
 --     fresh-imaged     the images after all of them
 use Rattle.std.proofs.Common.{◌≡◌, ℕ, zero, suc, ◌+◌, ◌-◌, ◌<◌, ◌≤◌, List, [], ◌∷◌, ◌++◌, length, take, set, get_or, replicate, sym, refl, ap, ◌∙◌, append_assoc, append-nil, arith}
 use Rattle.std.proofs.lemmas.List.{take_all, take_more_set, length-set}
@@ -14,12 +14,11 @@ other-fresh zero l = absurd (omega arith)
 other-fresh (suc zero) l = absurd (omega arith)
 other-fresh (suc (suc p)) l = refl
 
-pub fresh-step : {X : Type 0} (written : X → List ℕ → X) (p n : ℕ) (pages : List X) → p < n
+fresh-step : {X : Type 0} (written : X → List ℕ → X) (p n : ℕ) (pages : List X) → p < n
     → wrote written (fresh_writes p (n - p)) pages ≡ wrote written (fresh_writes (p + 1) (n - (p + 1))) (edit (λ x. written x (fresh_page p)) p pages)
 unfolding wrote fresh_writes
 fresh-step written p n pages l = let e : n - p ≡ suc (n - (p + 1)) = omega arith in ap (λ m. wrote written (fresh_writes p m) pages) e
 
--- the same by what is written, whatever page it is written to
 pub fresh-more : {X : Type 0} (written : X → List ℕ → X) (p n : ℕ) (pages : List X) (x y : X) (image : List ℕ) (v : List X) → p < n → p < length pages → x ≡ get_or pages p x → image ≡ fresh_page p → y ≡ written x image
     → wrote written (fresh_writes p (n - p)) pages ≡ v → wrote written (fresh_writes (p + 1) (n - (p + 1))) (set pages p y) ≡ v
 fresh-more written p n pages x y image v l m at is new e =

@@ -21,13 +21,13 @@ use Rattle.rows.specs.Lists.{Sorted, look_up, last_up_to, or_else}
 use Rattle.rows.proofs.Sorting.{not_back}
 use Rattle.pages.specs.Bytes.{AreBytes}
 use Rattle.pages.specs.declared.records.Entry.{Entry}
-use Rattle.register.specs.Images.{key_of, tree_of, entries_of}
+use Rattle.register.specs.Images.{key_of, entries_of}
 use Rattle.register.specs.Registers.{IsRegister}
 use Rattle.register.specs.Names.{has_name, newest_of, highest_version_of}
 use Rattle.register.proofs.FoundEntries.{kept, Found, either, both, last-there}
 use Rattle.register.proofs.ZeroKey.{key-long}
 use Rattle.register.proofs.NamedKeys.{last_key, key-version, last-not-below, named-between, version-rises, made-named, made-version}
-use Rattle.register.proofs.SortedEntries.{entries-sorted}
+use Rattle.register.proofs.SortedEntries.{register-sorted}
 
 abbrev pub of_name : List ℕ → Option Entry → Option Entry
 of_name name o = kept (has_name name) o
@@ -114,14 +114,11 @@ module _ (name : List ℕ) where
   fresh-version v es long is l = not-taken (v + 1) es long (omega arith) (omega arith)
 
 module _ (P : ℕ) (name : List ℕ) (images : List (List ℕ)) (r : IsRegister P images) where
-  sorted : Sorted key_of before (entries_of images)
-  sorted = entries-sorted key_of before keys-ordered (tree_of images) None r.shape.fine
-
   pub newest-stands : newest_of name (entries_of images) ≡ of_name name (last_up_to key_of before (name ++ two_bytes 9999) (entries_of images))
-  newest-stands = newest-in name (entries_of images) sorted r.keys
+  newest-stands = newest-in name (entries_of images) (register-sorted P images r) r.keys
 
   pub highest-stands : highest_version_of name (entries_of images) ≡ version_or (newest_of name (entries_of images))
-  highest-stands = highest-in name (entries_of images) sorted r.keys (All-weaker (λ e. is_byte_key e.key ≡ true) (λ e. AreBytes e.key) (λ e. key-bytes e.key) (entries_of images) r.keys)
+  highest-stands = highest-in name (entries_of images) (register-sorted P images r) r.keys (All-weaker (λ e. is_byte_key e.key ≡ true) (λ e. AreBytes e.key) (λ e. key-bytes e.key) (entries_of images) r.keys)
 
 abbrev pub number_or : Option Version → ℕ
 number_or None = 0

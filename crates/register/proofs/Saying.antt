@@ -3,7 +3,6 @@
 --     changed-says         a change leaves of a key what it says
 --     told-says            and so do changes, one after another
 --     looked-up            what is looked up in the entries that changes make of none is what they say
---     register-sorted      the entries of a register are in order
 use Rattle.std.proofs.Common.{◌≡◌, ℕ, true, false, cond, is_some, List, [], ◌∷◌, Some, None, Option, refl, ap, ◌∙◌, subst}
 use Rattle.std.specs.Cmp.Lexicographic.{bytes_decides}
 use Rattle.std.proofs.lemmas.Bool.{cond_both}
@@ -14,16 +13,11 @@ use Rattle.rows.specs.Lists.{insert, remove, Sorted, look_up, or_else}
 use Rattle.rows.proofs.Sorting.{sorted_insert, sorted-remove}
 use Rattle.rows.proofs.LookUps.{look_up-insert_same, look_up-insert_other, look_up-remove_same, look_up-remove_other}
 use Rattle.pages.specs.declared.records.Entry.{Entry}
-use Rattle.register.specs.Images.{key_of, entry, tree_of, entries_of}
-use Rattle.register.specs.Registers.{IsRegister}
+use Rattle.register.specs.Images.{key_of, entry}
 use Rattle.register.specs.Changes.{changed, told}
 use Rattle.register.specs.Said.{of_key, says, said_from, said}
 use Rattle.register.specs.declared.replay.Change.{Change}
 use Rattle.register.specs.declared.replay.Change.TheVariants.{Put, Take}
-use Rattle.register.proofs.SortedEntries.{entries-sorted}
-
-pub register-sorted : (P : ℕ) (images : List (List ℕ)) → IsRegister P images → Sorted key_of before (entries_of images)
-register-sorted P images r = entries-sorted key_of before keys-ordered (tree_of images) None r.shape.fine
 
 same-key : (k : List ℕ) (key : Key) → of_key k key ≡ true → key.bytes ≡ k
 same-key k key p = (bytes_decides key.bytes k).0 p

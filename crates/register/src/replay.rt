@@ -32,6 +32,7 @@ pub fn replay<P: Paged>(pages: &mut [P], changes: &[Change]) -> usize
     ensures full { Stops (length pages.old) (map P.image pages.new) result changes.now }
 {
     let mut register = Register::format(pages);
+    // A loop: `position` with a closure that carries out each change was tried, and a proof then does not know what the closure left in the register.
     for (i, change) in changes.iter().enumerate() {
         if register.carry_out(change).is_err() {
             return i;

@@ -4,7 +4,8 @@ use Rattle.std.proofs.lemmas.List.Sums.{fold_push}
 use Rattle.std.proofs.lemmas.Option.{get_or_from_slice_get, slice_get_within}
 use Rattle.register.specs.Changes.{changed, told}
 use Rattle.register.specs.declared.replay.Change.{Change}
-use Rattle.register.proofs.Saying.{register-sorted, looked-up}
+use Rattle.register.proofs.SortedEntries.{register-sorted}
+use Rattle.register.proofs.Saying.{looked-up}
 use Rattle.register.proofs.Telling.{refused, granted, stopped}
 use Rattle.register.proofs.replay.replay.Goals as goal
 

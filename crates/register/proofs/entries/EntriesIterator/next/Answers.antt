@@ -1,7 +1,7 @@
 use Rattle.std.proofs.Common.{◌≡◌, [], map, length, sym, ap, ◌∙◌, arith}
 use Rattle.register.specs.Images.{entries_of}
 use Rattle.register.proofs.Onward.{above-next, above-none}
-use Rattle.register.proofs.Saying.{register-sorted}
+use Rattle.register.proofs.SortedEntries.{register-sorted}
 use Rattle.register.proofs.entries.EntriesIterator.next.Goals as goal
 
 pub returns-in_err-entry-clause-steps : goal.returns-in_err-entry-clause-steps

@@ -1,7 +1,7 @@
 use Rattle.std.proofs.Common.{map, rules}
 use Rattle.register.specs.Images.{entries_of}
 use Rattle.register.proofs.Onward.{all-from}
-use Rattle.register.proofs.Saying.{register-sorted}
+use Rattle.register.proofs.SortedEntries.{register-sorted}
 use Rattle.register.proofs.lookups.Lookup.entries.Goals as goal
 
 pub returns-clause-all : goal.returns-clause-all
