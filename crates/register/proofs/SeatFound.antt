@@ -2,11 +2,10 @@
 --     SeatFound        what the number of separators that are not above the key tells
 --     seat-found       that number tells it
 use Rattle.std.proofs.Common.{◌≡◌, ℕ, ◌-◌, ◌<◌, ◌≤◌, List, map, length, get_or, ap, ◌∙◌, arith}
-use Rattle.std.proofs.lemmas.List.{length-map}
 use Rattle.names.specs.Orders.{before}
 use Rattle.rows.specs.Lists.{up_to}
 use Rattle.pages.specs.declared.records.Item.{Item}
-use Rattle.register.specs.Images.{items_of, leaf_of, node_of, seat, no_item}
+use Rattle.register.specs.Images.{items_of, leaf_of, seat, no_item}
 use Rattle.register.specs.Registers.{IsRegister}
 use Rattle.register.proofs.Homes.{home-known}
 
@@ -17,7 +16,6 @@ pub record SeatFound (P : ℕ) (images : List (List ℕ)) (k : List ℕ) (is : L
   pub page : (get_or is (u - 1) no_item).page ≡ (get_or (items_of images) (u - 1) no_item).page
   pub from : 1 ≤ (get_or is (u - 1) no_item).page
   pub to : (get_or is (u - 1) no_item).page < P
-  pub few : length is ≤ 20
   pub most : length (leaf_of images (get_or is (u - 1) no_item).page) ≤ 15
 
 pub seat-found : {P : ℕ} {images : List (List ℕ)} {k : List ℕ} {is : List Item} {u : ℕ} → IsRegister P images → length k ≡ 22 → is ≡ items_of images
@@ -35,6 +33,5 @@ seat-found {P} {images} {k} {is} {u} r long held up =
       page = page;
       from = omega (arith, p, h.from);
       to = omega (arith, p, h.to);
-      few = omega (arith, ap length held, length-map (items_of images) (node_of images), r.shape.few);
       most = omega (arith, ap (λ q. length (leaf_of images q)) p, ap length h.held, h.few);
     }
