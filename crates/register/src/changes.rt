@@ -18,7 +18,7 @@ use crate::roots::{drop_item, split};
 use crate::seats::{Seat, write_records};
 use names::key::Key;
 use pages::paged::Paged;
-use pages::records::Entry;
+use pages::records::{Entry, LEAF, MOST_ENTRIES};
 use refusal::Refusal;
 
 /// Pages that are lent for changes and hold a register.
@@ -36,8 +36,8 @@ fn put_at_seat<P: Paged>(pages: &mut [P], mut seat: Seat, new: Entry)
 {
     let place = seat.place;
     seat.leaf.put_in(place, new);
-    if seat.leaf.len() <= 15 {
-        write_records(pages, seat.page, b'L', seat.leaf.as_slice());
+    if seat.leaf.len() <= MOST_ENTRIES {
+        write_records(pages, seat.page, LEAF, seat.leaf.as_slice());
     } else {
         split(pages, seat);
     }
@@ -51,7 +51,7 @@ fn take_at_seat<P: Paged>(pages: &mut [P], key: &[u8; 22], mut seat: Seat)
 {
     let last = seat.place - 1;
     seat.leaf.take_out(last);
-    write_records(pages, seat.page, b'L', seat.leaf.as_slice());
+    write_records(pages, seat.page, LEAF, seat.leaf.as_slice());
     if seat.items.len() > 1 && seat.leaf.len() == 0 {
         drop_item(pages, seat);
     }

@@ -7,7 +7,7 @@ ghost use Rattle.register.specs.Registers.{IsRegister};
 
 use pages::page::write_page;
 use pages::paged::Paged;
-use pages::records::{Entry, Item};
+use pages::records::{Entry, Item, LEAF, ROOT};
 
 /// The image of a page of a fresh volume: page 0 is the root with one item, page 1 an empty leaf, every other one zeros.
 pub fn fresh_page(page: usize) -> [u8; 512]
@@ -19,10 +19,10 @@ pub fn fresh_page(page: usize) -> [u8; 512]
             separator: [0; 22],
             page: 1,
         }];
-        write_page(b'R', &items, &mut image);
+        write_page(ROOT, &items, &mut image);
     } else if page == 1 {
         let entries: [Entry; 0] = [];
-        write_page(b'L', &entries, &mut image);
+        write_page(LEAF, &entries, &mut image);
     }
     image
 }

@@ -9,14 +9,14 @@ ghost use Rattle.register.specs.OneProof.{IsRegister-prop};
 ghost use Rattle.register.specs.Names.{has_name, newest_of, highest_version_of};
 ghost use Rattle.register.specs.Seats.{Seated};
 
-use crate::seats::Seat;
+use crate::seats::{OVERFULL, Seat};
 use names::bound::Bound;
 use names::key::{Key, version_of};
 use names::name::Name;
 use names::version::{HIGHEST, Version};
 use pages::page::read_row;
 use pages::paged::{Paged, image_at};
-use pages::records::{Entry, Item};
+use pages::records::{Entry, Item, MOST_ENTRIES, MOST_ITEMS};
 use rows::row::Row;
 
 /// Pages that are lent and hold a register.
@@ -27,6 +27,7 @@ pub struct Lookup<'a, P: Paged> {
 }
 
 // Whether an entry is of this name.
+// No equality of two names: of the entry's bytes nothing is asked, and a `Name` is made of bytes that are one.
 fn is_of(entry: &Entry, name: &Name) -> bool
     ensures { result ≡ has_name name.now.bytes entry.now }
 {
@@ -43,11 +44,11 @@ impl<'a, P: Paged> Lookup<'a, P> {
     }
 
     // The entries of a leaf.
-    fn leaf(&self, page: usize) -> Row<Entry, 16>
+    fn leaf(&self, page: usize) -> Row<Entry, OVERFULL>
         requires { page < length self.now.pages.now }
         ensures { result ≡ leaf_of (map P.image self.now.pages.now) page }
     {
-        read_row(&image_at(self.pages, page), 15)
+        read_row(&image_at(self.pages, page), MOST_ENTRIES)
     }
 
     // Reads the root, and the leaf that a key belongs to: that of the last item whose separator is not above it.
@@ -55,7 +56,7 @@ impl<'a, P: Paged> Lookup<'a, P> {
         ensures seated { Seated (length self.now.pages.now) (map P.image self.now.pages.now) key.now result }
         ensures long { length key.now ≡ 22 }
     {
-        let items: Row<Item, 20> = read_row(&image_at(self.pages, 0), 20);
+        let items: Row<Item, MOST_ITEMS> = read_row(&image_at(self.pages, 0), MOST_ITEMS);
         let at = items.find(key) - 1;
         let page = items.as_slice()[at].page as usize;
         let leaf = self.leaf(page);

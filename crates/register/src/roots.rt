@@ -7,13 +7,13 @@ ghost use Rattle.register.specs.Images.{root_page, pages_of, split_writes, zero_
 
 use crate::seats::{Seat, write_records};
 use pages::paged::Paged;
-use pages::records::Item;
+use pages::records::{Item, LEAF, ROOT};
 
 // Whether an item names a page.
 fn names(items: &[Item], page: usize) -> bool
     ensures { result ≡ has page (pages_of items.now) }
 {
-    items.iter().any(|item| page == item.page as usize)
+    items.iter().any(|item| page == usize::from(item.page))
 }
 
 // The lowest page from 1 on that no item names; there is one.
@@ -35,14 +35,14 @@ pub(crate) fn split<P: Paged>(pages: &mut [P], seat: Seat)
     let mut items = seat.items;
     let page = lowest_free(items.as_slice(), pages.len());
     let entries = seat.leaf.as_slice();
-    write_records(pages, seat.page, b'L', &entries[0..8]);
-    write_records(pages, page, b'L', &entries[8..16]);
+    write_records(pages, seat.page, LEAF, &entries[0..8]);
+    write_records(pages, page, LEAF, &entries[8..16]);
     let item = Item {
         separator: entries[8].key,
         page: page as u16,
     };
     items.put_in(seat.at + 1, item);
-    write_records(pages, 0, b'R', items.as_slice());
+    write_records(pages, 0, ROOT, items.as_slice());
 }
 
 // Writes the root without an item, its first separator zeros.
@@ -55,8 +55,8 @@ pub(crate) fn drop_item<P: Paged>(pages: &mut [P], seat: Seat)
     items.take_out(seat.at);
     let first = Item {
         separator: [0; 22],
-        page: items.as_slice()[0].page,
+        ..items.as_slice()[0]
     };
     items.replace(0, first);
-    write_records(pages, 0, b'R', items.as_slice());
+    write_records(pages, 0, ROOT, items.as_slice());
 }

@@ -6,7 +6,7 @@ ghost use Rattle.register.specs.Images.{most_items};
 
 use pages::page::write_page;
 use pages::paged::{Paged, write_at};
-use pages::records::{Entry, Item};
+use pages::records::{Entry, Item, MOST_ENTRIES, MOST_ITEMS};
 use pages::stored::Stored;
 use rows::row::Row;
 
@@ -26,32 +26,33 @@ pub(crate) fn write_records<P: Paged, R: Stored>(
     write_at(pages, page, &image);
 }
 
+// As many entries as a leaf has that is too full, until it is split.
+pub(crate) const OVERFULL: usize = MOST_ENTRIES + 1;
+
 // The seat of a key: the root's items, the place of the item that the key belongs to and its page, the entries of that leaf, and how many of them are not above the key.
 // What else is known of a seat is `Seated`, and no fact of this type: it speaks of a key and of page images, which a seat does not hold.
 #[derive(Drop)]
 pub(crate) struct Seat {
-    pub(crate) items: Row<Item, 20>,
+    pub(crate) items: Row<Item, MOST_ITEMS>,
     pub(crate) at: usize,
     pub(crate) page: usize,
-    pub(crate) leaf: Row<Entry, 16>,
+    pub(crate) leaf: Row<Entry, OVERFULL>,
     pub(crate) place: usize,
     ghost within: { at < length items },
 }
 
 // The most items that the root may have in a register of so many pages.
 pub(crate) fn most_items(pages: usize) -> usize
-    requires { 1 ≤ pages }
     ensures { result ≡ most_items pages }
 {
-    (pages - 1).min(20)
+    pages.saturating_sub(1).min(MOST_ITEMS)
 }
 
 impl Seat {
     // Whether a register of so many pages takes a new entry at this seat.
     pub(crate) fn has_room(&self, pages: usize) -> bool
-        requires { 1 ≤ pages }
         ensures { result ≡ (nat_lt (length self.now.leaf) 15 || nat_lt (length self.now.items) (most_items pages)) }
     {
-        self.leaf.len() < 15 || self.items.len() < most_items(pages)
+        self.leaf.len() < MOST_ENTRIES || self.items.len() < most_items(pages)
     }
 }

@@ -35,4 +35,4 @@ returns-clause-seated g c =
 
 pub invariant_of-result : goal.invariant_of-result
 invariant_of-result g c =
-    let f = seat-found c.args.self.now.kept c.told-key (c.read_row-items.ensures ∙ ap (records_of item_of 24 20) c.image_at.ensures) c.find-at.ensures.value in record { within = f.within }
+    let f = seat-found c.args.self.now.kept c.told-key (c.read_row-items.ensures ∙ ap (records_of item_of 24 20) c.image_at.ensures) (c.find-at.ensures.value ∙ up_to-before _ _) in record { within = f.within }
