@@ -99,7 +99,6 @@ impl fmt::Display for Fields {
                 let file = KeyText(key);
                 write!(f, "leader  length {length:<5} file {file}")
             }
-            Tagged::Other => write!(f, "other   {:<38}", ""),
         }
     }
 }

@@ -17,7 +17,7 @@ use disk::disks::Disk;
 use failing::manner::Manner;
 use geometry::geometry::Geometry;
 use image::Image;
-use layout::tagged::{Tagged, tag_of};
+use layout::tagged::tag_of;
 use sheet::page::page_of;
 use std::env;
 
@@ -97,8 +97,7 @@ fn list<D: Disk>(rt: &HostRuntime, disk: &mut D) -> anyhow::Result<()> {
         let mut bytes = [0u8; 512];
         disk.read(sector, &mut bytes)
             .context("the disk could not be read")?;
-        let tagged = tag_of(&bytes, listing::SECTORS, listing::PAGES);
-        if tagged != Tagged::Other {
+        if let Some(tagged) = tag_of(&bytes, listing::SECTORS, listing::PAGES) {
             let line = Line {
                 sector,
                 tagged,

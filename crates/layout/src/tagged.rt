@@ -16,28 +16,17 @@ pub enum Tagged {
     Head(RecordHead),
     End(RecordEnd),
     Leader(Leader),
-    Other,
 }
 
-/// What a sector carries on a disk of `count` sectors, in a volume of `pages` pages.
-pub fn tag_of(sector: &[u8; 512], count: u32, pages: u8) -> Tagged
+/// What a sector carries on a disk of `count` sectors, in a volume of `pages` pages, if it is tagged.
+pub fn tag_of(sector: &[u8; 512], count: u32, pages: u8) -> Option<Tagged>
     ensures value { Carries count pages sector.now result }
     ensures alone { Alone count pages sector.now result }
 {
-    if let Some(header) = Header::decode(sector, count) {
-        return Tagged::Header(header);
-    }
-    if let Some(anchor) = Anchor::decode(sector, ()) {
-        return Tagged::Anchor(anchor);
-    }
-    if let Some(head) = RecordHead::decode(sector, pages) {
-        return Tagged::Head(head);
-    }
-    if let Some(end) = RecordEnd::decode(sector, ()) {
-        return Tagged::End(end);
-    }
-    if let Some(leader) = Leader::decode(sector, ()) {
-        return Tagged::Leader(leader);
-    }
-    Tagged::Other
+    Header::decode(sector, count)
+        .map(Tagged::Header)
+        .or_else(|| Anchor::decode(sector, ()).map(Tagged::Anchor))
+        .or_else(|| RecordHead::decode(sector, pages).map(Tagged::Head))
+        .or_else(|| RecordEnd::decode(sector, ()).map(Tagged::End))
+        .or_else(|| Leader::decode(sector, ()).map(Tagged::Leader))
 }
