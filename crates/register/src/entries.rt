@@ -48,9 +48,10 @@ impl<'a, P: Paged> Lookup<'a, P> {
         ensures all { result ≡ entries_of (map P.image self.now.pages.now) }
         ensures ordered { Sorted key_of before (entries_of (map P.image self.now.pages.now)) }
     {
+        let last = Bound::lowest();
         Entries {
             register: Lookup { pages: self.pages },
-            last: Bound::lowest(),
+            last,
         }
     }
 }

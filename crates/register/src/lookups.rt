@@ -88,7 +88,8 @@ impl<'a, P: Paged> Lookup<'a, P> {
             return Some(*entry);
         }
         let next = seat.items.as_slice().get(seat.at + 1)?;
-        self.leaf(next.page as usize).as_slice().first().copied()
+        let leaf = self.leaf(next.page as usize);
+        leaf.as_slice().first().copied()
     }
 
     // The highest entry that is not above a bound.
@@ -100,7 +101,8 @@ impl<'a, P: Paged> Lookup<'a, P> {
             return Some(*last);
         }
         let before = seat.items.as_slice()[..seat.at].last()?;
-        self.leaf(before.page as usize).as_slice().last().copied()
+        let leaf = self.leaf(before.page as usize);
+        leaf.as_slice().last().copied()
     }
 
     /// The entry of a name's newest version.

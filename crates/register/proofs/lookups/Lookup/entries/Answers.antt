@@ -5,7 +5,7 @@ use Rattle.register.proofs.SortedEntries.{register-sorted}
 use Rattle.register.proofs.lookups.Lookup.entries.Goals as goal
 
 pub returns-clause-all : goal.returns-clause-all
-returns-clause-all g c = all-from c.lowest.result.bytes (entries_of (map g.P.Paged.image c.args.self.now.pages.now)) c.lowest.ensures.below c.args.self.now.kept.keys
+returns-clause-all g c = all-from c.lowest-last.result.bytes (entries_of (map g.P.Paged.image c.args.self.now.pages.now)) c.lowest-last.ensures.below c.args.self.now.kept.keys
 
 pub returns-clause-ordered : goal.returns-clause-ordered
 returns-clause-ordered g c = search (rules, register-sorted)

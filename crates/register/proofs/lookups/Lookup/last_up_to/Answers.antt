@@ -11,10 +11,10 @@ pub returns-in_err-before : goal.returns-in_err-before
 returns-in_err-before g c =
     c.from_residual.ensures ∙ up_to-past c.args.self.now.kept c.home-seat.ensures.long c.home-seat.ensures.seated c.as_slice.ensures.records c.as_slice-2.ensures.records c.in_default.ensures.value c.in_err-before.ensures.value
 
-pub leaf-requires : goal.leaf-requires
-leaf-requires g c = page-before c.args.self.now.kept c.home-seat.ensures.long c.home-seat.ensures.seated c.as_slice.ensures.records c.as_slice-2.ensures.records c.in_ok-before.before.now c.in_ok-before.ensures.value
+pub leaf-leaf-requires : goal.leaf-leaf-requires
+leaf-leaf-requires g c = page-before c.args.self.now.kept c.home-seat.ensures.long c.home-seat.ensures.seated c.as_slice.ensures.records c.as_slice-2.ensures.records c.in_ok-before.before.now c.in_ok-before.ensures.value
 
 pub returns : goal.returns
 returns g c =
-    c.copied.ensures ∙ c.last-3.ensures.value ∙ last-is c.as_slice-3.result.now ∙ ap last (c.as_slice-3.ensures.records ∙ c.leaf.ensures)
+    c.copied.ensures ∙ c.last-3.ensures.value ∙ last-is c.as_slice-3.result.now ∙ ap last (c.as_slice-3.ensures.records ∙ c.leaf-leaf.ensures)
     ∙ up_to-prior c.args.self.now.kept c.home-seat.ensures.long c.home-seat.ensures.seated c.as_slice.ensures.records c.as_slice-2.ensures.records c.in_ok-before.before.now c.in_default.ensures.value c.in_ok-before.ensures.value
