@@ -11,6 +11,7 @@ use pages::paged::Paged;
 use register::lookups::Lookup;
 use register::replay::{Change, replay};
 use register_check::check::check;
+use register_check::extents::Area;
 
 // A name and a version.
 fn key(text: &[u8], version: u16) -> anyhow::Result<Key> {
@@ -69,9 +70,11 @@ pub fn show_register(rt: &HostRuntime, geometry: &Geometry) -> anyhow::Result<()
     let files = list_files(rt, &Lookup::over(&pages))?;
     let free = PLACES.saturating_sub(files);
     println!(rt; "{files} files, {free} of {PLACES} places free")?;
-    if let Some(page) = check(&pages, geometry.data_start(), geometry.sectors) {
-        bail!("page {page} of the register breaks a rule");
-    }
+    let area = Area {
+        first: geometry.data_start(),
+        sectors: geometry.sectors,
+    };
+    check(&pages, area).context("a page of the register breaks a rule")?;
     println!(rt; "the rules of the register are kept, and no two files meet")?;
     Ok(())
 }

@@ -1,6 +1,7 @@
 pub mod Chained
 pub mod Neighbours
 pub mod Risings
+pub mod KeyOrder
 pub mod RootRules
 pub mod Outcomes
 pub mod ExtentRules

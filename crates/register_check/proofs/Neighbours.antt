@@ -3,6 +3,7 @@
 --     apart-distinct       extents are apart by the test exactly if no two of them meet
 --     apart-permuted       the order of extents does not matter to whether they are apart
 --     apart-sorted         in a sorted list it is enough to compare neighbours
+--     neighbours           both of these
 use Rattle.std.proofs.Common.{◌≡◌, ℕ, suc, ◌<◌, Bool, true, false, not, List, [], ◌∷◌, length, get_or, refl, ap, subst, arith, add-one}
 use Rattle.std.specs.Bool.{Decides}
 use Rattle.std.specs.List.{list_all, AllByRecursion, IsDistinct}
@@ -63,3 +64,5 @@ apart-sorted xs s =
     let at = λ (k : ℕ) (d : Extent) (l : suc k < length xs). subst (λ n. is_lt (cmp (get_or xs n d) (get_or xs k d)) ≡ false) (add-one k) (s k d (omega arith) (omega arith)) in
     let turns = λ (e : apart xs ≡ true). all-chained in_turn xs (λ k d l. in-order (get_or xs k d) (get_or xs (suc k) d) (at k d l) (apart_from_distinct meets xs k (suc k) d ((apart-distinct xs).0 e) (omega arith) l)) in
     same_from_decides (chained in_turn xs) (apart xs) (chained-apart xs, turns) ((λ e. e), (λ e. e))
+
+pub ruleset neighbours = (apart-permuted, apart-sorted)

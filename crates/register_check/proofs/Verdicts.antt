@@ -1,6 +1,6 @@
 -- What the first fault means.
 --     verdict      none exactly if the rules are kept, and a page only if it breaks one
-use Rattle.std.proofs.Common.{◌≡◌, ℕ, ◌^◌, ◌<◌, ◌≤◌, Bool, true, false, cond, eqb, ◌⊎◌, inl, inr, List, length, Some, None, Option, sym, refl, ◌∙◌, arith}
+use Rattle.std.proofs.Common.{◌≡◌, ℕ, ◌^◌, ◌<◌, ◌≤◌, Bool, true, false, cond, eqb, ◌⊎◌, inl, inr, List, length, Some, None, Option, sym, refl, arith}
 use Rattle.std.specs.Bool.{Decides}
 use Rattle.std.proofs.lemmas.Bool.Decides.{not_from_Decides}
 use Rattle.rows.specs.Lists.{or_else}
@@ -74,6 +74,6 @@ module _ (first sectors P : ℕ) (images : List (List ℕ)) where
         ]
       ]
 
-  pub verdict : {answer : Option ℕ} → 2 ≤ P → P ≤ 21 → length images ≡ P → sectors < 2 ^ 32 → answer ≡ fault first sectors P images → Verdict first sectors P images answer
+  pub verdict : 2 ≤ P → P ≤ 21 → length images ≡ P → sectors < 2 ^ 32 → Verdict first sectors P images (fault first sectors P images)
   unfolding fault
-  verdict two most long small e = record { none = ((λ n. kept two most long small (sym e ∙ n)), (λ k. e ∙ none k)); some = λ p s. broken p (some-parts root leaf separate p (sym e ∙ s)) }
+  verdict two most long small = record { none = (kept two most long small, none); some = λ p s. broken p (some-parts root leaf separate p s) }

@@ -6,10 +6,13 @@
 --     first_leaf   the page of the first leaf that is not right
 --     fault_of_leaves      the page of the first leaf that is not right, or else the root's if the extents of the items' leaves meet
 --     fault        the first page that breaks a rule, or none
+--     answer_of    the answer that tells such a page: 13 with the page, or that every rule is kept
 --     Verdict      what an answer means
-use Rattle.std.specs.Prelude.{◌≡◌, ℕ, ◌<◌, Bool, cond, ◌↔◌, List, [], ◌∷◌, map, length, Some, None, Option, ◌==◌}
+use Rattle.std.specs.Prelude.{◌≡◌, ℕ, ◌<◌, Bool, cond, ◌↔◌, List, [], ◌∷◌, map, length, Some, None, Option, Ok, Err, Result, ◌==◌}
 use Rattle.std.specs.List.{AllByRecursion}
 use Rattle.rows.specs.Lists.{or_else}
+use Rattle.refusal.specs.declared.Refusal.{Refusal}
+use Rattle.refusal.specs.declared.Refusal.TheVariants.{RegisterBroken}
 use Rattle.pages.specs.declared.records.Item.{Item}
 use Rattle.tree.specs.Tree.{entries}
 use Rattle.register.specs.Images.{page_at, items_of, leaf_of, node_of, entries_of}
@@ -49,6 +52,10 @@ fault_of_leaves first sectors images items =
 unfoldable pub fault : ℕ → ℕ → ℕ → List (List ℕ) → Option ℕ
 fault first sectors P images =
     cond (root_right P (page_at images 0) (items_of images)) (fault_of_leaves first sectors images (items_of images)) (Some 0)
+
+abbrev pub answer_of : Option ℕ → Result Unit Refusal
+answer_of None = Ok tt
+answer_of (Some page) = Err (RegisterBroken page)
 
 pub record Verdict (first sectors P : ℕ) (images : List (List ℕ)) (answer : Option ℕ) : Type 0 where
   pub none : (answer ≡ None) ↔ Kept first sectors P images

@@ -1,23 +1,24 @@
-// Which page of a register breaks a rule.
-ghost use Rattle.std.specs.Prelude.{◌≡◌, ◌≤◌, map, length};
-ghost use Rattle.register_check.specs.Faults.{fault, Verdict};
+// Whether a register keeps its rules, or which page breaks one.
+ghost use Rattle.std.specs.Prelude.{◌≡◌, ℕ, ◌≤◌, map, length, Option};
+ghost use Rattle.register_check.specs.Faults.{fault, answer_of, Verdict};
 
 use crate::extents::Area;
 use crate::roots::root_right;
 use crate::search::Leaves;
 use pages::page::read_row;
 use pages::paged::{Paged, image_at};
+use refusal::Refusal;
 
-/// The first page that breaks a rule of the register on `pages`, whose files lie in the sectors from `first` on and below `sectors`: the root, then the leaves in its order, then the root again if two files have a sector in common. None if every rule is kept.
-pub fn check<P: Paged>(pages: &[P], first: u32, sectors: u32) -> Option<usize>
+/// Whether the register on `pages`, whose files lie in an area, keeps every rule, or 13 with the first page that breaks one: the root, then the leaves in its order, then the root again if two files have a sector in common.
+pub fn check<P: Paged>(pages: &[P], area: Area) -> Result<(), Refusal>
     requires { (2 ≤ length pages.now) × (length pages.now ≤ 21) }
-    ensures value { result ≡ fault first sectors (length pages.now) (map P.image pages.now) }
-    ensures law { Verdict first sectors (length pages.now) (map P.image pages.now) result }
+    ensures value { result ≡ answer_of (fault area.first area.sectors (length pages.now) (map P.image pages.now)) }
+    ensures law { (page : Option ℕ) × (result ≡ answer_of page) × Verdict area.first area.sectors (length pages.now) (map P.image pages.now) page }
 {
     let root = image_at(pages, 0);
     let items = read_row(&root, 20);
-    if !root_right(&root, &items, pages.len()) {
-        return Some(0);
+    if !root_right(&root, items.as_slice(), pages.len()) {
+        return Err(Refusal::RegisterBroken(0));
     }
-    Leaves { pages, items }.fault(Area { first, sectors })
+    Leaves { pages, items }.check(area)
 }

@@ -1,10 +1,10 @@
-// Whether any two files of a register have a sector in common: their extents are collected, and sorted.
+// Whether the leaves of a register are right, and no two of its files have a sector in common: their extents are collected, and sorted.
 ghost use Rattle.std.specs.Prelude.{◌≡◌, ◌+◌, ◌≤◌, ◌++◌, map, length};
 ghost use Rattle.arrayvec.specs.ArrayVec.{array_vec_len};
 ghost use Rattle.tree.specs.Tree.{entries};
 ghost use Rattle.register.specs.Images.{node_of};
 ghost use Rattle.register_check.specs.Extents.{extent, apart};
-ghost use Rattle.register_check.specs.Faults.{fault_of_leaves};
+ghost use Rattle.register_check.specs.Faults.{answer_of, fault_of_leaves};
 
 use crate::extents::{Area, Extent, apart};
 use crate::search::Leaves;
@@ -12,14 +12,15 @@ use arrayvec::ArrayVec;
 use pages::page::read_row;
 use pages::paged::{Paged, image_at};
 use pages::records::Entry;
+use refusal::Refusal;
 use rows::row::Row;
 
 // Adds the extents of a leaf's entries.
-fn add_extents(entries: &Row<Entry, 15>, extents: &mut ArrayVec<Extent, 300>)
+fn add_extents(entries: &[Entry], extents: &mut ArrayVec<Extent, 300>)
     requires { array_vec_len extents.old + length entries.now ≤ 300 }
     ensures { extents.new.items ≡ extents.old.items ++ map extent entries.now }
 {
-    for entry in entries.as_slice() {
+    for entry in entries {
         extents.push(Extent::from(entry));
     }
 }
@@ -32,7 +33,8 @@ impl<'a, P: Paged> Leaves<'a, P> {
         let mut extents = ArrayVec::new();
         for item in self.items.as_slice() {
             let page = image_at(self.pages, usize::from(item.page));
-            add_extents(&read_row(&page, 15), &mut extents);
+            let entries: Row<Entry, 15> = read_row(&page, 15);
+            add_extents(entries.as_slice(), &mut extents);
         }
         extents
     }
@@ -45,13 +47,14 @@ impl<'a, P: Paged> Leaves<'a, P> {
         apart(&mut extents)
     }
 
-    // The page of the first leaf that is not right, or else the root's if two files have a sector in common.
-    pub(crate) fn fault(&self, area: Area) -> Option<usize>
-        ensures { result ≡ fault_of_leaves area.first area.sectors (map P.image self.now.pages.now) self.now.items }
+    // Whether each leaf is right and no two files have a sector in common, or 13 with the page of the first leaf that is not right, or else the root's.
+    pub(crate) fn check(&self, area: Area) -> Result<(), Refusal>
+        ensures { result ≡ answer_of (fault_of_leaves area.first area.sectors (map P.image self.now.pages.now) self.now.items) }
     {
-        match self.first_wrong(area) {
-            None if !self.extents_apart() => Some(0),
-            wrong => wrong,
+        self.leaves_right(area)?;
+        if !self.extents_apart() {
+            return Err(Refusal::RegisterBroken(0));
         }
+        Ok(())
     }
 }

@@ -14,6 +14,7 @@ pub(crate) struct Extent {
 }
 
 // The extent of an entry's file, also of one that is longer than a file may be.
+// Not by `extent_sectors`, which refuses such a length: that of an entry that is checked may be any.
 impl From<&Entry> for Extent {
     ghost from_gives = { λ entry x. x ≡ extent entry.now };
 
@@ -35,8 +36,8 @@ impl Extent {
 }
 
 /// The sectors for files: from `first` on and below `sectors`.
-#[derive(Clone, Copy)]
-pub(crate) struct Area {
+#[derive(Clone, Copy, PartialEq, Eq, Debug)]
+pub struct Area {
     pub first: u32,
     pub sectors: u32,
 }
@@ -60,6 +61,7 @@ fn in_turn(extents: &[Extent]) -> bool
 }
 
 // Whether no two extents meet. It leaves them in order.
+#[tactic(auto, using(crate::proofs::Neighbours::neighbours))]
 pub(crate) fn apart(extents: &mut [Extent]) -> bool
     ensures { result ≡ apart extents.old }
 {

@@ -7,6 +7,7 @@ use names::key::Key;
 use rows::keyed::Keyed;
 
 // Whether these bytes are a key. The last one is below 256, as every byte is.
+// They come as bytes and not as a `Key`, since those of a page that is checked need be none.
 pub(crate) fn is_key(bytes: &[u8; 22]) -> bool
     ensures { result ≡ is_byte_key bytes.now }
 {

@@ -3,7 +3,7 @@
 
 pub mod check;
 mod collect;
-mod extents;
+pub mod extents;
 mod keys;
 mod leaves;
 mod roots;

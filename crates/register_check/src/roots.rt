@@ -1,5 +1,5 @@
 // Whether the root of a register is right.
-ghost use Rattle.std.specs.Prelude.{◌≡◌, ◌≤◌, not, ◌&&◌};
+ghost use Rattle.std.specs.Prelude.{◌≡◌, ◌≤◌, not, ◌&&◌, length};
 ghost use Rattle.tree.specs.Tree.{has};
 ghost use Rattle.register.specs.Images.{pages_of};
 ghost use Rattle.register_check.specs.Roots.{zeros_first, keys_behind, leaf_page_of, pages_right, root_right};
@@ -7,17 +7,15 @@ ghost use Rattle.register_check.specs.Roots.{zeros_first, keys_behind, leaf_page
 use crate::keys::{is_key, rising};
 use pages::page::formed;
 use pages::records::Item;
-use rows::row::Row;
 
 // Whether there are items, and the first separator is zeros.
 #[tactic(auto, unfolding(register::specs::Images::zero_key))]
 fn zeros_first(items: &[Item]) -> bool
     ensures { result ≡ zeros_first items.now }
 {
-    match items {
-        [first, ..] => first.separator == [0; 22],
-        [] => false,
-    }
+    items
+        .first()
+        .is_some_and(|first| first.separator == [0; 22])
 }
 
 // Whether the separators behind the first are keys.
@@ -40,6 +38,7 @@ fn page_right(item: &Item, later: &[Item], pages: usize) -> bool
 fn pages_right(items: &[Item], pages: usize) -> bool
     ensures { result ≡ pages_right pages items.now }
 {
+    // By what is left of the slice: each item is compared with those behind it, and the proof of `enumerate` with `all` and a slice from each place on did not close.
     let mut rest = items;
     while let Some((item, later)) = rest.split_first() {
         if !page_right(item, later, pages) {
@@ -51,11 +50,11 @@ fn pages_right(items: &[Item], pages: usize) -> bool
 }
 
 // Whether a page with these items is a right root.
-pub(crate) fn root_right(page: &[u8; 512], items: &Row<Item, 20>, pages: usize) -> bool
-    requires { 1 ≤ pages }
+pub(crate) fn root_right(page: &[u8; 512], items: &[Item], pages: usize) -> bool
+    requires few { length items.now ≤ 20 }
+    requires some { 1 ≤ pages }
     ensures { result ≡ root_right pages page.now items.now }
 {
-    let items = items.as_slice();
     formed(b'R', items, page)
         && zeros_first(items)
         && keys_behind(items)

@@ -3,6 +3,7 @@ use names::key::Key;
 use names::name::Name;
 use names::version::Version;
 use register::replay::Change;
+use register_check::extents::Area;
 use std::alloc::{AllocError, Global};
 use std::test::Fail;
 
@@ -10,7 +11,10 @@ use std::test::Fail;
 pub const FIRST: u32 = 60;
 
 /// As many sectors as the files of all numbers need.
-pub const ENOUGH: u32 = 60 + 3 * 9999;
+pub const ENOUGH: Area = Area {
+    first: FIRST,
+    sectors: FIRST + 3 * 9999,
+};
 
 /// The key of a name and a version.
 pub fn key(text: &[u8], version: u16) -> Result<Key, Fail> {

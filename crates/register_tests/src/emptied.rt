@@ -1,6 +1,6 @@
 // What stays when the last entry is taken out.
 
-use crate::changes::{ENOUGH, FIRST, add, falling, nth, put, rising, take};
+use crate::changes::{ENOUGH, add, falling, nth, put, rising, take};
 use crate::page_bytes::{empty_leaf, root_with};
 use names::bound::Bound;
 use names::name::Name;
@@ -40,7 +40,7 @@ fn fresh(rt: HostRuntime) -> Result<(), Fail> {
         assert!(rt; *image == [0; 512], "{}", page);
         assert!(rt; fresh_page(page) == [0; 512], "{}", page);
     }
-    assert_eq!(rt; check(&pages, FIRST, ENOUGH), None);
+    assert_eq!(rt; check(&pages, ENOUGH), Ok(()));
     is_empty(&rt, &mut Register::over(&mut pages), 1)
 }
 
@@ -55,7 +55,7 @@ fn leaves(rt: &(impl Abort + AllocGlobal), order: &[u16], page: u8) -> Result<()
     for (page, image) in pages.iter().enumerate().skip(1) {
         assert!(rt; *image == empty_leaf(), "{}", page);
     }
-    assert_eq!(rt; check(&pages, FIRST, ENOUGH), None);
+    assert_eq!(rt; check(&pages, ENOUGH), Ok(()));
     is_empty(rt, &mut Register::over(&mut pages), usize::from(page))
 }
 

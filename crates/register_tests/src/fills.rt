@@ -1,7 +1,7 @@
 // How many entries fit before 5.
 ghost use Rattle.std.specs.Prelude.{◌≤◌, length};
 
-use crate::changes::{ENOUGH, FIRST, add, falling, nth, put, rising};
+use crate::changes::{ENOUGH, add, falling, nth, put, rising};
 use refusal::Refusal;
 use register::changes::Register;
 use register::lookups::Lookup;
@@ -54,7 +54,7 @@ fn fit(
     assert!(rt; Lookup::over(pages).has_room(&nth(order[many - 1])?));
     add(&mut changes, &order[many - 1..], put)?;
     assert_eq!(rt; replay(pages, changes.as_slice()), many);
-    assert_eq!(rt; check(pages, FIRST, ENOUGH), None);
+    assert_eq!(rt; check(pages, ENOUGH), Ok(()));
     refuses(rt, &mut Register::over(pages), order[many])
 }
 

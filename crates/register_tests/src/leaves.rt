@@ -1,5 +1,6 @@
 // Rules of the leaves, each broken once.
-use crate::rules::{Row, blamed, edit, good};
+use crate::rules::{AREA, Row, blamed, edit, good};
+use refusal::Refusal;
 use register_check::check::check;
 use std::test::Fail;
 
@@ -50,12 +51,12 @@ fn in_order(rt: HostRuntime) -> Result<(), Fail> {
     let mut pages = good(&rt)?;
     pages.swap(1, 2);
     edit(&rt, &mut pages, &[(0, 54, b"\0\x02"), (0, 78, b"\0\x01")]);
-    assert_eq!(rt; check(&pages, 60, 108), None);
+    assert_eq!(rt; check(&pages, AREA), Ok(()));
     edit(&rt, &mut pages, &[(1, 3, b"\x01")]);
-    assert_eq!(rt; check(&pages, 60, 108), Some(1));
+    assert_eq!(rt; check(&pages, AREA), Err(Refusal::RegisterBroken(1)));
     edit(&rt, &mut pages, &[(2, 3, b"\x01")]);
-    assert_eq!(rt; check(&pages, 60, 108), Some(2));
+    assert_eq!(rt; check(&pages, AREA), Err(Refusal::RegisterBroken(2)));
     edit(&rt, &mut pages, &[(0, 3, b"\x01")]);
-    assert_eq!(rt; check(&pages, 60, 108), Some(0));
+    assert_eq!(rt; check(&pages, AREA), Err(Refusal::RegisterBroken(0)));
     Ok(())
 }

@@ -1,7 +1,7 @@
 // Which pages the leaves have, and which pages a change writes.
 ghost use Rattle.std.specs.Prelude.{◌≤◌, length};
 
-use crate::changes::{ENOUGH, FIRST, add, falling, nth, put, rising, take};
+use crate::changes::{ENOUGH, add, falling, nth, put, rising, take};
 use crate::page_bytes::{page_with, put_bytes, written};
 use register::lookups::Lookup;
 use register::replay::{Change, replay};
@@ -15,7 +15,7 @@ type Row = (u16, usize);
 
 // Checks to which pages keys belong.
 fn belong(rt: &impl Abort, register: &Lookup<'_, [u8; 512]>, rows: &[Row]) -> Result<(), Fail> {
-    assert_eq!(rt; check(register.pages, FIRST, ENOUGH), None);
+    assert_eq!(rt; check(register.pages, ENOUGH), Ok(()));
     for (n, page) in rows {
         assert_eq!(rt; register.page_of(&nth(*n)?), *page, "{}", n);
     }

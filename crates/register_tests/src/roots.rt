@@ -1,5 +1,6 @@
 // Rules of the root, each broken once.
-use crate::rules::{Row, blamed, edit, good};
+use crate::rules::{AREA, Row, blamed, edit, good};
+use refusal::Refusal;
 use register_check::check::check;
 use std::test::Fail;
 
@@ -56,9 +57,12 @@ fn of_the_root(rt: HostRuntime) -> Result<(), Fail> {
 fn of_the_pages(rt: HostRuntime) -> Result<(), Fail> {
     let mut pages = good(&rt)?;
     edit(&rt, &mut pages, &[(3, 0, b"NR\x15"), (3, 511, b"\xff")]);
-    assert_eq!(rt; check(&pages, 60, 108), None);
-    assert_eq!(rt; check(&pages[0..3], 60, 108), None);
-    assert_eq!(rt; check(&pages[0..2], 60, 108), Some(0));
-    assert_eq!(rt; check(&[[0; 512]; 2], 60, 108), Some(0));
+    assert_eq!(rt; check(&pages, AREA), Ok(()));
+    assert_eq!(rt; check(&pages[0..3], AREA), Ok(()));
+    assert_eq!(rt; check(&pages[0..2], AREA), Err(Refusal::RegisterBroken(0)));
+    assert_eq!(rt;
+        check(&[[0; 512]; 2], AREA),
+        Err(Refusal::RegisterBroken(0))
+    );
     Ok(())
 }

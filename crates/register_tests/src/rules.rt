@@ -1,10 +1,12 @@
 // Good registers with bytes changed by hand: the page that breaks a rule.
 ghost use Rattle.std.specs.Prelude.{◌≤◌, length};
 
-use crate::changes::{add, put, rising};
+use crate::changes::{FIRST, add, put, rising};
 use crate::page_bytes::put_bytes;
+use refusal::Refusal;
 use register::replay::replay;
 use register_check::check::check;
+use register_check::extents::Area;
 use std::process::Abort;
 use std::test::Fail;
 
@@ -28,16 +30,27 @@ pub fn edit(rt: &impl Abort, pages: &mut [[u8; 512]; 4], edits: &[Edit]) {
     }
 }
 
+/// The sectors for the files of a good register.
+pub const AREA: Area = Area {
+    first: FIRST,
+    sectors: 108,
+};
+
 /// What is changed, and the page that then breaks a rule.
-pub type Row = (&'static [Edit], Option<usize>);
+pub type Row = (&'static [Edit], Option<u32>);
 
 /// Checks rows on a disk of so many sectors.
 pub fn blamed(rt: &(impl Abort + AllocGlobal), sectors: u32, rows: &[Row]) -> Result<(), Fail> {
     let good = good(rt)?;
+    let area = Area {
+        first: FIRST,
+        sectors,
+    };
     for (i, (edits, page)) in rows.iter().enumerate() {
         let mut pages = good;
         edit(rt, &mut pages, *edits);
-        assert_eq!(rt; check(&pages, 60, sectors), *page, "{}", i);
+        let refused = page.map(Refusal::RegisterBroken);
+        assert_eq!(rt; check(&pages, area).err(), refused, "{}", i);
     }
     Ok(())
 }
