@@ -18,8 +18,8 @@ split-requires-clause-free g c =
     let few : length s.items < length c.args.pages.now - 1 = grind (arith, nat_tests) in
     free-below s.items (length c.args.pages.now) few
 
-pub returns-then-len-le15 : goal.returns-then-len-le15
-returns-then-len-le15 g c =
+pub returns-then-len-le-MOST_ENTRIES : goal.returns-then-len-le-MOST_ENTRIES
+returns-then-len-le-MOST_ENTRIES g c =
     let pages = c.args.pages.now in
     let images = map g.P.Paged.image pages in
     let s = c.args.seat in
@@ -29,8 +29,8 @@ returns-then-len-le15 g c =
     let one : put_writes (length pages) c.args.new images ≡ write s.page (leaf_page es) ∷ [] = grind (arith, nat_tests, by) in
     put-leaf g.P.Paged.written pages c.write_records.new.pages s.page c.as_slice.result.now es c.write_records.ensures (c.as_slice.ensures.records ∙ c.put_in.ensures) ∙ ap (λ ws. wrote g.P.Paged.written ws pages) (sym one)
 
-pub returns-else-len-le15 : goal.returns-else-len-le15
-returns-else-len-le15 g c =
+pub returns-else-len-le-MOST_ENTRIES : goal.returns-else-len-le-MOST_ENTRIES
+returns-else-len-le-MOST_ENTRIES g c =
     let pages = c.args.pages.now in
     let images = map g.P.Paged.image pages in
     let s = c.args.seat in
