@@ -1,7 +1,5 @@
 // Keys and changes by numbers: the n-th key is that of R in version n, and its file has 40 bytes and the three sectors from 57 + 3 n on.
 use names::key::Key;
-use names::name::Name;
-use names::version::Version;
 use register::replay::Change;
 use register_check::extents::Area;
 use std::alloc::{AllocError, Global};
@@ -18,8 +16,7 @@ pub const ENOUGH: Area = Area {
 
 /// The key of a name and a version.
 pub fn key(text: &[u8], version: u16) -> Result<Key, Fail> {
-    let version = Version::new(version).ok_or("no version")?;
-    Ok(Key::new(&Name::new(text)?, version))
+    Ok(Key::of(text, version).ok_or("no key")?)
 }
 
 /// The n-th key.
