@@ -31,6 +31,7 @@ pub fn count_tail(bytes: &[u8], from: usize) -> usize {
 }
 
 /// Whether each byte of a block is `value`.
+// Not `are_zeros` of `layout`, which is private to that crate and knows zeros alone.
 pub fn is_all(block: &[u8; 512], value: u8) -> bool {
     block.iter().all(|byte| *byte == value)
 }

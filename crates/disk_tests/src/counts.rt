@@ -3,6 +3,7 @@ use crate::bytes::{count_tail, put_tail};
 use crate::kinds::on_image;
 use crate::scripts::Answer::*;
 use crate::scripts::Call::*;
+use disk::faults::Fault::*;
 use std::process::Abort;
 use std::test::Fail;
 
@@ -14,8 +15,8 @@ fn has(rt: &impl Abort, bytes: &mut [u8], count: u32) {
         true,
         &[
             (Count, Sectors(count)),
-            (Read(count), Refused(16, None)),
-            (Write(count, 1), Refused(16, None)),
+            (Read(count), Refused(NoSuchSector)),
+            (Write(count, 1), Refused(NoSuchSector)),
         ],
     );
 }

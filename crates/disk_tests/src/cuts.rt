@@ -3,7 +3,8 @@ use crate::bytes::put_sectors;
 use crate::kinds::{image_of, on_failing, on_image, on_window};
 use crate::scripts::Answer::*;
 use crate::scripts::Call::*;
-use crate::scripts::{Answer, Call, ask, play};
+use crate::scripts::{Answer, BAD_0, BAD_1, BAD_2, Call, ask, play};
+use disk::faults::Fault::*;
 use failing::failing::Failing;
 use failing::manner::Manner;
 use image::Image;
@@ -16,13 +17,6 @@ fn failing(rt: &impl Abort, calls: u32, manner: Manner, script: &[(Call, Answer)
     put_sectors(&mut bytes);
     on_failing(rt, Image::new(&mut bytes), calls, manner, script, &[]);
 }
-
-// Sectors that are unreadable.
-const BAD_0: Answer = Refused(10, Some(0));
-
-const BAD_1: Answer = Refused(10, Some(1));
-
-const BAD_2: Answer = Refused(10, Some(2));
 
 // A manner, the sector written, and what the three sectors are then.
 type Row = (Manner, u32, Answer, Answer, Answer);
@@ -55,9 +49,9 @@ fn check_row(rt: &impl Abort, (manner, sector, left_0, left_1, left_2): Row) {
         ask,
         &mut Failing::new(Image::new(&mut bytes), 0, manner),
         &[
-            (Write(sector, 9), Refused(9, Some(sector))),
-            (Read(sector), Refused(9, Some(sector))),
-            (Write(sector, 8), Refused(9, Some(sector))),
+            (Write(sector, 9), Refused(PowerOff(sector))),
+            (Read(sector), Refused(PowerOff(sector))),
+            (Write(sector, 8), Refused(PowerOff(sector))),
             (Start, Done),
             (Read(0), left_0),
             (Read(1), left_1),
@@ -70,8 +64,8 @@ fn check_row(rt: &impl Abort, (manner, sector, left_0, left_1, left_2): Row) {
 
 #[test]
 fn each_manner_at_each_sector(rt: HostRuntime) {
-    for row in &ALL {
-        check_row(&rt, *row);
+    for row in ALL {
+        check_row(&rt, row);
     }
 }
 
@@ -83,7 +77,7 @@ fn a_spoiled_sector_is_cut_as_any_other(rt: HostRuntime) {
         Manner::AsBefore,
         &[
             (Spoil(1), Done),
-            (Write(1, 9), Refused(9, Some(1))),
+            (Write(1, 9), Refused(PowerOff(1))),
             (Start, Done),
             (Read(1), BAD_1),
         ],
@@ -94,7 +88,7 @@ fn a_spoiled_sector_is_cut_as_any_other(rt: HostRuntime) {
         Manner::NewBytes,
         &[
             (Spoil(1), Done),
-            (Write(1, 9), Refused(9, Some(1))),
+            (Write(1, 9), Refused(PowerOff(1))),
             (Start, Done),
             (Read(1), Holds(9)),
         ],
@@ -109,9 +103,9 @@ fn a_chosen_start(rt: HostRuntime) {
         Manner::Own,
         &[
             (Write(1, 9), Done),
-            (Start, Refused(9, Some(0))),
-            (Read(1), Refused(9, Some(1))),
-            (Read(3), Refused(9, Some(3))),
+            (Start, Refused(PowerOff(0))),
+            (Read(1), Refused(PowerOff(1))),
+            (Read(3), Refused(PowerOff(3))),
             (Count, Sectors(3)),
             (Start, Done),
             (Read(0), Holds(1)),
@@ -130,8 +124,8 @@ fn a_chosen_read(rt: HostRuntime) {
         &[
             (Start, Done),
             (Write(0, 9), Done),
-            (Read(1), Refused(9, Some(1))),
-            (Write(2, 9), Refused(9, Some(2))),
+            (Read(1), Refused(PowerOff(1))),
+            (Write(2, 9), Refused(PowerOff(2))),
             (Start, Done),
             (Read(0), Holds(9)),
             (Read(1), Holds(2)),
@@ -147,15 +141,15 @@ fn refused_calls_do_not_count(rt: HostRuntime) {
         1,
         Manner::Own,
         &[
-            (Read(3), Refused(16, None)),
-            (Write(3, 9), Refused(16, None)),
+            (Read(3), Refused(NoSuchSector)),
+            (Write(3, 9), Refused(NoSuchSector)),
             (Spoil(1), Done),
             (Read(1), BAD_1),
             (Read(0), Holds(1)),
-            (Read(3), Refused(16, None)),
-            (Write(3, 9), Refused(16, None)),
+            (Read(3), Refused(NoSuchSector)),
+            (Write(3, 9), Refused(NoSuchSector)),
             (Read(1), BAD_1),
-            (Read(0), Refused(9, Some(0))),
+            (Read(0), Refused(PowerOff(0))),
         ],
     );
 }
@@ -170,11 +164,11 @@ fn calls_with_power_off_do_not_count(rt: HostRuntime) {
         1,
         Manner::NewBytes,
         &[
-            (Read(0), Refused(9, Some(0))),
-            (Write(3, 9), Refused(9, Some(3))),
+            (Read(0), Refused(PowerOff(0))),
+            (Write(3, 9), Refused(PowerOff(3))),
             (Start, Done),
-            (Write(2, 9), Refused(9, Some(2))),
-            (Read(2), Refused(9, Some(2))),
+            (Write(2, 9), Refused(PowerOff(2))),
+            (Read(2), Refused(PowerOff(2))),
             (Spoil(0), Done),
         ],
         &[(Read(0), BAD_0), (Read(1), Holds(2)), (Read(2), Holds(9))],
@@ -183,7 +177,7 @@ fn calls_with_power_off_do_not_count(rt: HostRuntime) {
 
 // A cut at the first sector of a window.
 const CUT: [(Call, Answer); 3] = [
-    (Write(0, 9), Refused(9, Some(0))),
+    (Write(0, 9), Refused(PowerOff(0))),
     (Start, Done),
     (Read(0), BAD_0),
 ];

@@ -5,6 +5,7 @@ use crate::scripts::Answer::*;
 use crate::scripts::Call::*;
 use disk::disks::Disk;
 use disk::faults::Fault;
+use disk::faults::Fault::*;
 use failing::manner::Manner;
 use image::Image;
 use std::test::Fail;
@@ -39,8 +40,8 @@ fn any_mark_but_0_is_unreadable(rt: HostRuntime) {
         &mut bytes,
         true,
         &[
-            (Read(0), Refused(10, Some(0))),
-            (Read(1), Refused(10, Some(1))),
+            (Read(0), Refused(Unreadable(0))),
+            (Read(1), Refused(Unreadable(1))),
             (Read(2), Holds(3)),
         ],
     );
@@ -58,12 +59,12 @@ fn no_call_touches_the_tail(rt: HostRuntime) {
         &[
             (Write(1, 9), Done),
             (Read(1), Holds(9)),
-            (Write(2, 9), Refused(16, None)),
-            (Spoil(2), Refused(16, None)),
+            (Write(2, 9), Refused(NoSuchSector)),
+            (Spoil(2), Refused(NoSuchSector)),
             (Spoil(1), Done),
-            (Write(1, 8), Refused(9, Some(1))),
+            (Write(1, 8), Refused(PowerOff(1))),
             (Start, Done),
-            (Read(1), Refused(10, Some(1))),
+            (Read(1), Refused(Unreadable(1))),
         ],
         &[(Write(1, 7), Done)],
     );

@@ -32,6 +32,7 @@ pub fn on_lent(rt: &impl Abort, bytes: &mut [u8], script: &[(Call, Answer)]) {
     on_disk(rt, &mut image, script);
 }
 
+// Not one function for every disk above another: each gives the disk below back by a method of its own, and to pass that in would be no shorter.
 /// Plays a script on a window over a disk, and then one on the disk that the window gives back.
 pub fn on_window<D: Spoilable + Drop>(
     rt: &impl Abort,
@@ -45,7 +46,7 @@ pub fn on_window<D: Spoilable + Drop>(
     play(rt, &"below", ask, &mut window.into_below(), below);
 }
 
-// A number of calls and a manner are what `Failing::new` takes; a struct of the two would be taken apart again here.
+// A number of calls and a manner are what `Failing::new` takes; a struct of the two would be taken apart again here. One of the two scripts would make each call longer.
 /// Plays a script on a disk whose power fails after `calls` calls, and then one on the disk below, given back.
 pub fn on_failing<D: Spoilable + Drop>(
     rt: &impl Abort,

@@ -3,7 +3,8 @@ use crate::bytes::put_sectors;
 use crate::plain::Plain;
 use crate::scripts::Answer::*;
 use crate::scripts::Call::*;
-use crate::scripts::{Answer, Call, ask_any, play};
+use crate::scripts::{Answer, BAD_0, BAD_1, BAD_2, BAD_3, BAD_4, Call, ask_any, play};
+use disk::faults::Fault::*;
 use failing::manner::Manner;
 use image::Image;
 use marking::marking::Marking;
@@ -35,17 +36,6 @@ type Row = (Manner, u32, [Answer; 5]);
 
 // The sectors as they were.
 const WERE: [Answer; 5] = [Holds(1), Holds(2), Holds(3), Holds(4), Holds(5)];
-
-// Sectors that are unreadable.
-const BAD_0: Answer = Refused(10, Some(0));
-
-const BAD_1: Answer = Refused(10, Some(1));
-
-const BAD_2: Answer = Refused(10, Some(2));
-
-const BAD_3: Answer = Refused(10, Some(3));
-
-const BAD_4: Answer = Refused(10, Some(4));
 
 const ALL: [Row; 15] = [
     (Manner::AsBefore, 0, WERE),
@@ -121,10 +111,10 @@ fn check_row(rt: &impl Abort, (manner, sector, left): Row) {
         0,
         manner,
         &[
-            (Write(sector, 9), Refused(9, Some(sector))),
-            (Read(sector), Refused(9, Some(sector))),
-            (Read(5), Refused(9, Some(5))),
-            (Write(sector, 8), Refused(9, Some(sector))),
+            (Write(sector, 9), Refused(PowerOff(sector))),
+            (Read(sector), Refused(PowerOff(sector))),
+            (Read(5), Refused(PowerOff(5))),
+            (Write(sector, 8), Refused(PowerOff(sector))),
             (Count, Sectors(5)),
             (Start, Done),
             (Read(0), left[0]),
@@ -132,8 +122,8 @@ fn check_row(rt: &impl Abort, (manner, sector, left): Row) {
             (Read(2), left[2]),
             (Read(3), left[3]),
             (Read(4), left[4]),
-            (Read(5), Refused(16, None)),
-            (Write(5, 9), Refused(16, None)),
+            (Read(5), Refused(NoSuchSector)),
+            (Write(5, 9), Refused(NoSuchSector)),
             (Write(0, 10), Done),
             (Read(0), Holds(10)),
             (Write(1, 11), Done),
@@ -158,8 +148,8 @@ fn check_row(rt: &impl Abort, (manner, sector, left): Row) {
 
 #[test]
 fn each_manner_at_the_first_a_middle_and_the_last_sector(rt: HostRuntime) {
-    for row in &ALL {
-        check_row(&rt, *row);
+    for row in ALL {
+        check_row(&rt, row);
     }
 }
 
@@ -172,7 +162,7 @@ fn a_lost_neighbour_is_lost_until_it_is_written_itself(rt: HostRuntime) {
         Manner::OwnAndAbove,
         &[
             (Read(2), Holds(3)),
-            (Write(2, 9), Refused(9, Some(2))),
+            (Write(2, 9), Refused(PowerOff(2))),
             (Start, Done),
             (Write(2, 7), Done),
             (Read(2), Holds(7)),
@@ -197,7 +187,7 @@ fn the_disk_below_still_has_what_was_lost(rt: HostRuntime) {
         0,
         Manner::OwnAndBelow,
         &[
-            (Write(2, 9), Refused(9, Some(2))),
+            (Write(2, 9), Refused(PowerOff(2))),
             (Start, Done),
             (Read(1), BAD_1),
             (Read(2), BAD_2),
@@ -214,7 +204,7 @@ fn a_run_over_lost_sectors(rt: HostRuntime) {
         0,
         Manner::OwnAndAbove,
         &[
-            (WriteRun(1, 3), Refused(9, Some(1))),
+            (WriteRun(1, 3), Refused(PowerOff(1))),
             (Start, Done),
             (Read(1), BAD_1),
             (Read(2), BAD_2),
@@ -249,14 +239,14 @@ fn a_write_that_loses_the_power_below_leaves_the_sector_lost(rt: HostRuntime) {
         &rt,
         Manner::OwnAndAbove,
         &[
-            (Write(1, 9), Refused(9, Some(1))),
+            (Write(1, 9), Refused(PowerOff(1))),
             (Start, Done),
             (Read(1), BAD_1),
             (Read(2), BAD_2),
-            (Write(1, 8), Refused(9, Some(1))),
-            (Read(1), Refused(9, Some(1))),
-            (Read(2), Refused(9, Some(2))),
-            (Read(5), Refused(9, Some(5))),
+            (Write(1, 8), Refused(PowerOff(1))),
+            (Read(1), Refused(PowerOff(1))),
+            (Read(2), Refused(PowerOff(2))),
+            (Read(5), Refused(PowerOff(5))),
             (Start, Done),
             (Read(1), BAD_1),
             (Read(2), BAD_2),
@@ -273,11 +263,11 @@ fn a_read_that_loses_the_power_below(rt: HostRuntime) {
         &rt,
         Manner::Own,
         &[
-            (Write(1, 9), Refused(9, Some(1))),
+            (Write(1, 9), Refused(PowerOff(1))),
             (Start, Done),
             (Read(1), BAD_1),
-            (Read(0), Refused(9, Some(0))),
-            (Read(1), Refused(9, Some(1))),
+            (Read(0), Refused(PowerOff(0))),
+            (Read(1), Refused(PowerOff(1))),
             (Start, Done),
             (Read(0), Holds(1)),
             (Read(1), BAD_1),
@@ -291,10 +281,10 @@ fn a_start_that_is_refused_below(rt: HostRuntime) {
         &rt,
         Manner::Own,
         &[
-            (Write(1, 9), Refused(9, Some(1))),
+            (Write(1, 9), Refused(PowerOff(1))),
             (Start, Done),
-            (Start, Refused(9, Some(0))),
-            (Read(1), Refused(9, Some(1))),
+            (Start, Refused(PowerOff(0))),
+            (Read(1), Refused(PowerOff(1))),
             (Start, Done),
             (Read(1), BAD_1),
         ],
@@ -314,8 +304,8 @@ fn the_power_below_fails_in_the_chosen_call(rt: HostRuntime) {
         ask_any,
         &mut Marking::new(plain, 0, Manner::OwnAndAbove),
         &[
-            (Write(1, 9), Refused(9, Some(1))),
-            (Start, Refused(9, Some(0))),
+            (Write(1, 9), Refused(PowerOff(1))),
+            (Start, Refused(PowerOff(0))),
             (Start, Done),
             (Read(0), Holds(1)),
             (Read(1), Holds(2)),
@@ -338,11 +328,11 @@ fn under_a_window(rt: HostRuntime) {
         ask_any,
         &mut window,
         &[
-            (Write(0, 9), Refused(9, Some(0))),
+            (Write(0, 9), Refused(PowerOff(0))),
             (Start, Done),
             (Read(0), BAD_0),
             (Read(1), Holds(4)),
-            (Read(2), Refused(16, None)),
+            (Read(2), Refused(NoSuchSector)),
             (Write(0, 8), Done),
             (Read(0), Holds(8)),
         ],

@@ -3,7 +3,8 @@ use crate::bytes::put_sectors;
 use crate::kinds::on_image;
 use crate::scripts::Answer::*;
 use crate::scripts::Call::*;
-use crate::scripts::{Answer, Call, ask, play};
+use crate::scripts::{Answer, BAD_0, BAD_1, Call, ask, play};
+use disk::faults::Fault::*;
 use failing::manner::Manner;
 use image::Image;
 use marking::marking::Marking;
@@ -25,11 +26,6 @@ fn marking(
     play(rt, &"below", ask, &mut disk.into_below(), below);
 }
 
-// Sectors that are unreadable.
-const BAD_0: Answer = Refused(10, Some(0));
-
-const BAD_1: Answer = Refused(10, Some(1));
-
 #[test]
 fn above_a_window_the_disk_below_is_as_before(rt: HostRuntime) {
     let mut bytes = [0; 1539];
@@ -45,7 +41,7 @@ fn above_a_window_the_disk_below_is_as_before(rt: HostRuntime) {
         ask,
         &mut disk,
         &[
-            (Write(0, 9), Refused(9, Some(0))),
+            (Write(0, 9), Refused(PowerOff(0))),
             (Start, Done),
             (Read(0), BAD_0),
         ],
@@ -77,7 +73,7 @@ fn a_spoiled_sector_is_cut_and_marked_as_any_other(rt: HostRuntime) {
         Manner::AsBefore,
         &[
             (Spoil(1), Done),
-            (Write(1, 9), Refused(9, Some(1))),
+            (Write(1, 9), Refused(PowerOff(1))),
             (Start, Done),
             (Read(1), BAD_1),
         ],
@@ -89,7 +85,7 @@ fn a_spoiled_sector_is_cut_and_marked_as_any_other(rt: HostRuntime) {
         Manner::NewBytes,
         &[
             (Spoil(1), Done),
-            (Write(1, 9), Refused(9, Some(1))),
+            (Write(1, 9), Refused(PowerOff(1))),
             (Start, Done),
             (Read(1), Holds(9)),
         ],
@@ -104,9 +100,9 @@ fn a_lost_sector_that_is_spoiled_stays_spoiled_below(rt: HostRuntime) {
         0,
         Manner::OwnAndAbove,
         &[
-            (Write(0, 9), Refused(9, Some(0))),
+            (Write(0, 9), Refused(PowerOff(0))),
             (Spoil(0), Done),
-            (Spoil(3), Refused(16, None)),
+            (Spoil(3), Refused(NoSuchSector)),
             (Start, Done),
             (Read(0), BAD_0),
             (Read(1), BAD_1),
@@ -123,8 +119,8 @@ fn a_chosen_start_and_a_chosen_read_lose_no_sector(rt: HostRuntime) {
         Manner::Own,
         &[
             (Write(1, 9), Done),
-            (Start, Refused(9, Some(0))),
-            (Read(1), Refused(9, Some(1))),
+            (Start, Refused(PowerOff(0))),
+            (Read(1), Refused(PowerOff(1))),
             (Start, Done),
             (Read(1), Holds(9)),
         ],
@@ -136,8 +132,8 @@ fn a_chosen_start_and_a_chosen_read_lose_no_sector(rt: HostRuntime) {
         Manner::Own,
         &[
             (Write(1, 9), Done),
-            (Read(1), Refused(9, Some(1))),
-            (Read(0), Refused(9, Some(0))),
+            (Read(1), Refused(PowerOff(1))),
+            (Read(0), Refused(PowerOff(0))),
             (Start, Done),
             (Read(1), Holds(9)),
         ],
@@ -152,13 +148,13 @@ fn refused_calls_do_not_count_with_marks(rt: HostRuntime) {
         1,
         Manner::Own,
         &[
-            (Read(3), Refused(16, None)),
-            (Write(3, 9), Refused(16, None)),
+            (Read(3), Refused(NoSuchSector)),
+            (Write(3, 9), Refused(NoSuchSector)),
             (Spoil(1), Done),
             (Read(1), BAD_1),
             (Read(0), Holds(1)),
             (Read(1), BAD_1),
-            (Read(0), Refused(9, Some(0))),
+            (Read(0), Refused(PowerOff(0))),
         ],
         &[],
     );

@@ -5,6 +5,7 @@ use crate::scripts::Answer::*;
 use crate::scripts::Call::*;
 use crate::scripts::{Answer, Call};
 use disk::faults::Fault;
+use disk::faults::Fault::*;
 use refusal::Refusal;
 use std::process::Abort;
 use std::test::Fail;
@@ -39,8 +40,8 @@ fn check_row(rt: &impl Abort, (refusal, number, place, words): Row) {
 
 #[test]
 fn numbers_places_and_words(rt: HostRuntime) {
-    for row in &ALL {
-        check_row(&rt, *row);
+    for row in ALL {
+        check_row(&rt, row);
     }
 }
 
@@ -82,10 +83,10 @@ fn with_power_on(rt: HostRuntime) {
         true,
         &[
             (Read(0), Holds(1)),
-            (Read(1), Refused(10, Some(1))),
-            (Read(2), Refused(16, None)),
-            (Read(u32::MAX), Refused(16, None)),
-            (Write(2, 9), Refused(16, None)),
+            (Read(1), Refused(Unreadable(1))),
+            (Read(2), Refused(NoSuchSector)),
+            (Read(u32::MAX), Refused(NoSuchSector)),
+            (Write(2, 9), Refused(NoSuchSector)),
         ],
     );
 }
@@ -97,15 +98,15 @@ fn with_power_off(rt: HostRuntime) {
         false,
         &[
             (Count, Sectors(2)),
-            (Read(0), Refused(9, Some(0))),
-            (Read(1), Refused(9, Some(1))),
-            (Read(2), Refused(9, Some(2))),
-            (Read(u32::MAX), Refused(9, Some(u32::MAX))),
-            (Write(0, 9), Refused(9, Some(0))),
-            (Write(2, 9), Refused(9, Some(2))),
+            (Read(0), Refused(PowerOff(0))),
+            (Read(1), Refused(PowerOff(1))),
+            (Read(2), Refused(PowerOff(2))),
+            (Read(u32::MAX), Refused(PowerOff(u32::MAX))),
+            (Write(0, 9), Refused(PowerOff(0))),
+            (Write(2, 9), Refused(PowerOff(2))),
             (Start, Done),
             (Read(0), Holds(1)),
-            (Read(1), Refused(10, Some(1))),
+            (Read(1), Refused(Unreadable(1))),
         ],
     );
 }

@@ -4,6 +4,7 @@ use crate::kinds::{on_failing, on_image};
 use crate::scripts::Answer::*;
 use crate::scripts::Call::*;
 use crate::scripts::{Answer, Call};
+use disk::faults::Fault::*;
 use failing::manner::Manner;
 use image::Image;
 use std::process::Abort;
@@ -39,11 +40,11 @@ fn not_on_the_disk(rt: HostRuntime) {
         &rt,
         true,
         &[
-            (WriteRun(2, 2), Refused(16, None)),
-            (WriteRun(0, 4), Refused(16, None)),
-            (WriteRun(3, 1), Refused(16, None)),
-            (WriteRun(4, 0), Refused(16, None)),
-            (WriteRun(u32::MAX, 1), Refused(16, None)),
+            (WriteRun(2, 2), Refused(NoSuchSector)),
+            (WriteRun(0, 4), Refused(NoSuchSector)),
+            (WriteRun(3, 1), Refused(NoSuchSector)),
+            (WriteRun(4, 0), Refused(NoSuchSector)),
+            (WriteRun(u32::MAX, 1), Refused(NoSuchSector)),
             (Read(0), Holds(1)),
             (Read(1), Holds(2)),
             (Read(2), Holds(3)),
@@ -59,8 +60,8 @@ fn with_power_off(rt: HostRuntime) {
         &[
             (WriteRun(0, 0), Done),
             (WriteRun(3, 0), Done),
-            (WriteRun(1, 2), Refused(9, Some(1))),
-            (WriteRun(2, 2), Refused(16, None)),
+            (WriteRun(1, 2), Refused(PowerOff(1))),
+            (WriteRun(2, 2), Refused(NoSuchSector)),
             (Start, Done),
             (Read(1), Holds(2)),
             (Read(2), Holds(3)),
@@ -78,10 +79,10 @@ fn cut_in_the_middle(rt: HostRuntime) {
         1,
         Manner::Own,
         &[
-            (WriteRun(0, 3), Refused(9, Some(1))),
+            (WriteRun(0, 3), Refused(PowerOff(1))),
             (Start, Done),
             (Read(0), Holds(11)),
-            (Read(1), Refused(10, Some(1))),
+            (Read(1), Refused(Unreadable(1))),
             (Read(2), Holds(3)),
         ],
         &[],

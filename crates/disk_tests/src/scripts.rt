@@ -3,7 +3,6 @@ use crate::bytes::{count_tail, is_all, put_tail};
 use disk::disks::{Disk, Spoilable};
 use disk::faults::Fault;
 use disk::runs::write_run;
-use refusal::Refusal;
 use std::fmt::Debug;
 use std::process::Abort;
 
@@ -29,19 +28,27 @@ pub enum Answer {
     /// A read found 512 bytes that are all the same.
     Holds(u8),
     HoldsMixed,
-    /// The refusal's number and its place. A refused read left the caller's 512 bytes as they were.
-    Refused(u8, Option<u32>),
+    /// A refused read left the caller's 512 bytes as they were.
+    Refused(Fault),
     RefusedAndFilled,
 }
+
+// The answers to reads of sectors that are unreadable. No array, since an element of one is no constant.
+pub const BAD_0: Answer = Answer::Refused(Fault::Unreadable(0));
+
+pub const BAD_1: Answer = Answer::Refused(Fault::Unreadable(1));
+
+pub const BAD_2: Answer = Answer::Refused(Fault::Unreadable(2));
+
+pub const BAD_3: Answer = Answer::Refused(Fault::Unreadable(3));
+
+pub const BAD_4: Answer = Answer::Refused(Fault::Unreadable(4));
 
 // The answer to a call other than count and read.
 fn answer_of(res: Result<(), Fault>) -> Answer {
     match res {
         Ok(()) => Answer::Done,
-        Err(fault) => {
-            let refusal = Refusal::from(fault);
-            Answer::Refused(refusal.number(), refusal.place())
-        }
+        Err(fault) => Answer::Refused(fault),
     }
 }
 
@@ -51,7 +58,7 @@ fn read<D: Disk>(disk: &mut D, sector: u32) -> Answer {
     match disk.read(sector, &mut block) {
         Ok(()) if is_all(&block, block[0]) => Answer::Holds(block[0]),
         Ok(()) => Answer::HoldsMixed,
-        Err(fault) if count_tail(&block, 0) == 512 => answer_of(Err(fault)),
+        Err(fault) if count_tail(&block, 0) == 512 => Answer::Refused(fault),
         Err(_) => Answer::RefusedAndFilled,
     }
 }

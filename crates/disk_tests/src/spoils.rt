@@ -4,11 +4,12 @@ use crate::kinds::{image_of, on_image, on_lent, on_window};
 use crate::scripts::Answer::*;
 use crate::scripts::Call::*;
 use crate::scripts::{Answer, Call};
+use disk::faults::Fault::*;
 
 // What is read where sector 1 was spoiled.
 const SPOILED: [(Call, Answer); 3] = [
     (Read(0), Holds(1)),
-    (Read(1), Refused(10, Some(1))),
+    (Read(1), Refused(Unreadable(1))),
     (Read(2), Holds(3)),
 ];
 
@@ -23,12 +24,12 @@ fn until_it_is_written(rt: HostRuntime) {
         &[
             (Spoil(1), Done),
             (Read(0), Holds(1)),
-            (Read(1), Refused(10, Some(1))),
+            (Read(1), Refused(Unreadable(1))),
             (Read(2), Holds(3)),
             (Write(1, 9), Done),
             (Read(1), Holds(9)),
-            (Spoil(3), Refused(16, None)),
-            (Spoil(u32::MAX), Refused(16, None)),
+            (Spoil(3), Refused(NoSuchSector)),
+            (Spoil(u32::MAX), Refused(NoSuchSector)),
             (Spoil(2), Done),
         ],
     );
@@ -48,8 +49,8 @@ fn with_power_off(rt: HostRuntime) {
         false,
         &[
             (Spoil(1), Done),
-            (Spoil(3), Refused(16, None)),
-            (Read(1), Refused(9, Some(1))),
+            (Spoil(3), Refused(NoSuchSector)),
+            (Read(1), Refused(PowerOff(1))),
             (Start, Done),
         ],
     );
@@ -66,9 +67,9 @@ fn through_a_window(rt: HostRuntime) {
         (1, 1),
         &[
             (Spoil(0), Done),
-            (Spoil(1), Refused(16, None)),
+            (Spoil(1), Refused(NoSuchSector)),
             (Start, Done),
-            (Read(0), Refused(10, Some(0))),
+            (Read(0), Refused(Unreadable(0))),
         ],
         &SPOILED,
     );
@@ -84,8 +85,8 @@ fn through_a_lent_disk(rt: HostRuntime) {
         &[
             (Count, Sectors(3)),
             (Spoil(1), Done),
-            (Spoil(3), Refused(16, None)),
-            (Read(1), Refused(10, Some(1))),
+            (Spoil(3), Refused(NoSuchSector)),
+            (Read(1), Refused(Unreadable(1))),
             (Write(0, 1), Done),
             (Start, Done),
         ],

@@ -4,11 +4,12 @@ use crate::kinds::{image_of, on_window};
 use crate::scripts::Answer::*;
 use crate::scripts::Call::*;
 use crate::scripts::{ask, play};
+use disk::faults::Fault::*;
 use image::Image;
 use std::process::Abort;
 use window::Window;
 
-// Checks that a window has `count` sectors and no more.
+// Checks that a window has `count` sectors and no more. Not one function with `has` of `counts`: the disks are made in other ways, and the scripts write other bytes and spoil a sector here alone.
 fn has(rt: &impl Abort, bytes: &mut [u8], part: (u32, u32), count: u32) {
     let (first, length) = part;
     play(
@@ -18,9 +19,9 @@ fn has(rt: &impl Abort, bytes: &mut [u8], part: (u32, u32), count: u32) {
         &mut Window::new(Image::new(bytes), first, length),
         &[
             (Count, Sectors(count)),
-            (Read(count), Refused(16, None)),
-            (Write(count, 9), Refused(16, None)),
-            (Spoil(count), Refused(16, None)),
+            (Read(count), Refused(NoSuchSector)),
+            (Write(count, 9), Refused(NoSuchSector)),
+            (Spoil(count), Refused(NoSuchSector)),
         ],
     );
 }
@@ -47,8 +48,8 @@ const ALL: [Row; 13] = [
 #[test]
 fn counts_what_lies_on_the_disk(rt: HostRuntime) {
     let mut bytes = [0; 2052];
-    for (part, count) in &ALL {
-        has(&rt, &mut bytes, *part, *count);
+    for (part, count) in ALL {
+        has(&rt, &mut bytes, part, count);
     }
     has(&rt, &mut [], (0, 1), 0);
 }
@@ -64,9 +65,9 @@ fn sector_i_is_first_and_i_below(rt: HostRuntime) {
         &[
             (Read(0), Holds(2)),
             (Read(1), Holds(3)),
-            (Read(2), Refused(16, None)),
+            (Read(2), Refused(NoSuchSector)),
             (Write(1, 9), Done),
-            (Write(2, 9), Refused(16, None)),
+            (Write(2, 9), Refused(NoSuchSector)),
         ],
         &[
             (Count, Sectors(4)),
@@ -87,11 +88,11 @@ fn with_power_off(rt: HostRuntime) {
         image_of(&mut bytes, false),
         (1, 2),
         &[
-            (Read(0), Refused(9, Some(0))),
-            (Read(2), Refused(9, Some(2))),
-            (Write(2, 9), Refused(9, Some(2))),
-            (Write(u32::MAX, 9), Refused(9, Some(u32::MAX))),
-            (Spoil(2), Refused(16, None)),
+            (Read(0), Refused(PowerOff(0))),
+            (Read(2), Refused(PowerOff(2))),
+            (Write(2, 9), Refused(PowerOff(2))),
+            (Write(u32::MAX, 9), Refused(PowerOff(u32::MAX))),
+            (Spoil(2), Refused(NoSuchSector)),
             (Start, Done),
             (Read(0), Holds(2)),
         ],
@@ -110,15 +111,15 @@ fn over_a_window(rt: HostRuntime) {
         &[
             (Count, Sectors(1)),
             (Read(0), Holds(3)),
-            (Read(1), Refused(16, None)),
+            (Read(1), Refused(NoSuchSector)),
             (Write(0, 9), Done),
-            (Write(1, 9), Refused(16, None)),
+            (Write(1, 9), Refused(NoSuchSector)),
         ],
         &[
             (Count, Sectors(2)),
             (Read(0), Holds(2)),
             (Read(1), Holds(9)),
-            (Read(2), Refused(16, None)),
+            (Read(2), Refused(NoSuchSector)),
         ],
     );
 }
