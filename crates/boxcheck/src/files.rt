@@ -1,23 +1,18 @@
 // The register of the small volume: some files are put in, one is taken out again, and what is left is listed.
 use crate::lines::FileLine;
 use crate::listing::{IMAGES, PLACES};
-use anyhow::{Context, bail, ensure};
+use anyhow::{Context, ensure};
 use geometry::geometry::Geometry;
-use names::bound::Bound;
 use names::key::Key;
-use names::name::Name;
-use names::version::Version;
 use pages::paged::Paged;
 use register::lookups::Lookup;
 use register::replay::{Change, replay};
 use register_check::check::check;
 use register_check::extents::Area;
 
-// A name and a version.
+// The key of a file.
 fn key(text: &[u8], version: u16) -> anyhow::Result<Key> {
-    let name = Name::new(text).context("a name of a file is bad")?;
-    let version = Version::new(version).context("a version of a file is bad")?;
-    Ok(Key::new(&name, version))
+    Key::of(text, version).context("a name or a version of a file is bad")
 }
 
 // A file of so many bytes is put in, from a sector on.
@@ -47,17 +42,19 @@ fn changes() -> anyhow::Result<[Change; 6]> {
 // Prints a line for each file of a register, in the order of keys, and says how many there are.
 fn list_files<P: Paged>(rt: &HostRuntime, register: &Lookup<'_, P>) -> anyhow::Result<u32> {
     println!(rt; "name                  version   start  length  page")?;
-    let mut bound = Bound::lowest();
-    for files in 0..PLACES + 1 {
-        let Some(entry) = register.above(&bound) else {
-            return Ok(files);
-        };
+    let mut files = 0u32;
+    for entry in register.entries() {
         let key = Key::from_bytes(&entry.key).context("a key of the register is bad")?;
-        let page = register.page_of(&key);
-        println!(rt; "{}", FileLine { entry, page })?;
-        bound.bytes = entry.key;
+        let line = FileLine {
+            key,
+            start: entry.start,
+            length: entry.length,
+            page: register.page_of(&key),
+        };
+        println!(rt; "{line}")?;
+        files = files.saturating_add(1);
     }
-    bail!("the register has too many files")
+    Ok(files)
 }
 
 /// Fills the register of a small volume, lists its files and checks its rules.

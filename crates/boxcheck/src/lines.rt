@@ -6,9 +6,8 @@ use layout::end::RecordEnd;
 use layout::head::RecordHead;
 use layout::header::Header;
 use layout::tagged::Tagged;
-use names::key::version_of;
-use pages::records::Entry;
-use std::{fmt, str};
+use names::key::Key;
+use std::fmt;
 
 /// A volume's geometry, for printing.
 #[derive(Drop)]
@@ -39,25 +38,6 @@ impl fmt::Display for Places {
             self.0.second_homes()
         )?;
         write!(f, "data       from sector {}", self.0.data_start())
-    }
-}
-
-// The name in a key's bytes: the letters before the first zero.
-fn name_in(key: &[u8; 22]) -> &str {
-    let length = key[..20].iter().position(|byte| *byte == 0).unwrap_or(20);
-    str::from_utf8(&key[..length]).unwrap_or("?")
-}
-
-/// A key as its name, a full stop and its version, in 20 columns at least, for printing.
-#[derive(Drop)]
-struct KeyText([u8; 22]);
-
-impl fmt::Display for KeyText {
-    fn fmt<W: fmt::Write>(&self, f: &mut fmt::Formatter<W>) -> fmt::Result {
-        let name = name_in(&self.0);
-        let version = version_of(&self.0);
-        let width = 19usize.saturating_sub(name.len());
-        write!(f, "{name}.{version:<width$}")
     }
 }
 
@@ -94,10 +74,15 @@ impl fmt::Display for Fields {
                 write!(f, "end     group {group:<3} pages {count:<22}")
             }
             Tagged::Leader(leader) => {
-                let key = leader.key;
                 let length = leader.length;
-                let file = KeyText(key);
-                write!(f, "leader  length {length:<5} file {file}")
+                let key = Key::from_bytes(&leader.key).ok_or(fmt::Error)?;
+                let name = key.name();
+                let version = key.version().number;
+                let width = 19usize.saturating_sub(name.text().len());
+                write!(
+                    f,
+                    "leader  length {length:<5} file {name}.{version:<width$}"
+                )
             }
         }
     }
@@ -124,19 +109,19 @@ impl fmt::Display for Line<'_> {
 /// A file of the register and the page that its entry is on, for printing.
 #[derive(Drop)]
 pub struct FileLine {
-    pub entry: Entry,
+    pub key: Key,
+    pub start: u32,
+    pub length: u32,
     pub page: usize,
 }
 
 impl fmt::Display for FileLine {
     fn fmt<W: fmt::Write>(&self, f: &mut fmt::Formatter<W>) -> fmt::Result {
-        let Entry { key, start, length } = &self.entry;
-        write!(
-            f,
-            "{:<20}{:>9}{start:>8}{length:>8}{:>6}",
-            name_in(key),
-            version_of(key),
-            self.page
-        )
+        let name = self.key.name();
+        let version = self.key.version().number;
+        let start = self.start;
+        let length = self.length;
+        let page = self.page;
+        write!(f, "{name:<20}{version:>9}{start:>8}{length:>8}{page:>6}")
     }
 }
