@@ -17,6 +17,7 @@ pub trait Carried: Sized {
     ghost decoded: { Self.Known → List ℕ → Option Self };
 
     /// Fills a sector with this value.
+    // Into the caller's bytes: a volume works in one sector of memory, and makes no other.
     fn encode(&self, sector: &mut [u8; 512])
         ensures { sector.new ≡ encoded self.now };
 

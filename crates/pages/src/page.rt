@@ -15,7 +15,7 @@ fn write_all<R: Stored>(records: &[R], page: &mut [u8; 512])
     ensures { page.new ≡ take 32 page.old ++ flat_map R.bytes records.now ++ drop (32 + R.WIDE * length records.now) page.old }
 {
     let wide = R::WIDE;
-    // By places: a proof does not know what `chunks_exact_mut` leaves in a page.
+    // By places: a proof does not know what `chunks_exact_mut` leaves in a page, and with a rest that is split off in each turn it would have to say the page by the ends of as many loans.
     for (i, record) in records.iter().enumerate() {
         let at = 32 + wide * i;
         record.write(&mut page[at..at + wide]);
@@ -36,7 +36,8 @@ fn read_all<R: Stored + Copy>(page: &[u8; 512], out: &mut [R])
 }
 
 /// Makes a page of records: N and a letter, their count, and from byte 32 on the records.
-// The letter is an argument and no constant of the record's kind: a caller may ask whether a page of entries stands under another letter.
+// The letter is an argument, and no constant of the record's kind: such a constant would be asked of all that implement `Stored`, and no page of a kind could be told to stand under the letter of another.
+// Into the caller's bytes, as all that fills a sector or a page: a volume works in the memory that it has, and makes no copy of a page.
 pub fn write_page<R: Stored>(letter: u8, records: &[R], page: &mut [u8; 512])
     requires { Holds R.WIDE (length records.now) }
     ensures { page.new ≡ page_of R.bytes letter records.now }
@@ -78,11 +79,7 @@ pub fn decode_page<R: Stored + Copy>(letter: u8, page: &[u8; 512], out: &mut [R]
     ensures read { out.new ≡ records_of R.value R.WIDE (length out.old) page.now ++ drop (min (slice_index page.now 2) (length out.old)) out.old }
 {
     let n = read_page(page, out.len(), out);
-    if formed(letter, &out[..n], page) {
-        Some(n)
-    } else {
-        None
-    }
+    formed(letter, &out[..n], page).then_some(n)
 }
 
 /// The records of a page, at most so many.

@@ -23,9 +23,7 @@ fn bytes_at<const N: usize>(buf: &[u8], at: usize) -> [u8; N]
     requires { at + N ≤ length buf.now }
     ensures { result ≡ take N (drop at buf.now) }
 {
-    let mut bytes = [0; N];
-    bytes.copy_from_slice(&buf[at..at + N]);
-    bytes
+    *buf[at..].first_chunk().unwrap()
 }
 
 // A separator and a key are bytes here. A `Key` is too little: a page may hold bytes that are no key, and the check of a register has to read them. A `Bound` is no plainer: each clause would name its bytes a field deeper, and of all that a `Bound` has only its order is used, which arrays have.

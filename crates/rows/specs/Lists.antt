@@ -9,7 +9,7 @@
 --     last_up_to       the last entry of those in front that are not above a key
 --     or_else          the first of two answers that is one
 --     first, last      a list's ends
---     put_at, without  a list with x put in at the place i, and without what stands there
+--     put_at, without  a list with x put in at the place i, and without what stands there; the library's `insert` and `remove` do this, but are named as those by a key here
 use Rattle.std.specs.Prelude.{◌≡◌, ℕ, suc, Bool, true, cond, List, [], ◌∷◌, ◌++◌, take, drop, Some, None, Option}
 use Rattle.std.specs.List.{AllByRecursion}
 use Rattle.std.specs.declared.cmp.Ordering.{Ordering}

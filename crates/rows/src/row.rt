@@ -6,6 +6,7 @@ use crate::keyed::Keyed;
 use std::marker::Model;
 
 /// At most `N` records, whose users keep them in the order of their keys. `docs/CALLS.md` says what its calls do.
+// Not the library's `ArrayVec`: to take one out it asks that records have a `Default`, which no call here asks.
 #[derive(Drop)]
 pub struct Row<R, const N: usize> {
     records: [R; N],
@@ -87,7 +88,7 @@ impl<R: Keyed, const N: usize> Row<R, N> {
     }
 }
 
-// The next three take records and their count apart: they are lent, and the memory of a volume is fixed.
+// The next three take records and their count apart, so that a caller that has both keeps them in a memory of its own: a `Row` would be a copy of the records, and the memory of a volume is fixed.
 
 /// How many of the first `count` records have a key that is not above `wanted`, from the first on.
 pub fn place_in<R: Keyed>(records: &[R], count: usize, wanted: &R::Key) -> usize
