@@ -1,2 +1,1 @@
 pub mod OneUse
-pub mod Rounded

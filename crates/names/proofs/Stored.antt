@@ -4,7 +4,6 @@
 --     stored-name      a good text filled up with zeros is a name
 --     stored-key       a name and a version are a key
 --     stored-byte-key  its last byte is below 256
---     filled-empty     no text filled up is 20 zeros
 --     key-bytes        if the last byte of a key is below 256, all its bytes are
 use Rattle.std.proofs.Common.{◌≡◌, ℕ, zero, suc, ◌-◌, ◌/◌, ◌%◌, ◌<◌, ◌≤◌, true, false, cond, ◌&&◌, ◌==◌, List, [], ◌∷◌, ◌++◌, length, get_or, take, drop, replicate, sym, refl, ap, ◌∙◌, subst, arith}
 use Rattle.std.specs.List.{AllByRecursion}
@@ -64,10 +63,6 @@ module _ (key name : List ℕ) (n : ℕ) (is : key ≡ name ++ two_bytes n) (goo
 
   pub stored-byte-key : is_byte_key key ≡ true
   stored-byte-key = and_from _ _ stored-key (lt-ltb (get_or key 21 0) 256 (omega (arith, low)))
-
-pub filled-empty : (text : List ℕ) → length text ≡ 0 → replicate 20 0 ≡ filled text
-filled-empty [] e = refl
-filled-empty (b ∷ text) e = absurd (omega arith)
 
 -- The bytes of a stored name are below 256.
 letter-small : (b : ℕ) → letter b ≡ true → b < 256
