@@ -1,6 +1,6 @@
 -- A leader comes back from its sector, and from no other.
 use Rattle.std.proofs.Common.{◌≡◌, ℕ, ◌+◌, ◌-◌, ◌/◌, ◌%◌, ◌^◌, ◌<◌, ◌≤◌, true, ◌&&◌, leb, List, [], ◌∷◌, ◌++◌, length, get_or, take, drop, replicate, Some, sym, ap, ◌∙◌, ap₂, arith, take-add}
-use Rattle.std.proofs.lemmas.List.{take_at, drop_at, drop-drop, append_assoc, get_or-append_right, get_or-drop, length-drop}
+use Rattle.std.proofs.lemmas.List.{take_at, drop_at, drop-drop, append_assoc, get_or-drop, length-drop}
 use Rattle.std.proofs.lemmas.Bool.Decides.{nat_tests}
 use Rattle.geometry.specs.Sizes.{longest}
 use Rattle.names.specs.Names.{is_key}
@@ -8,7 +8,7 @@ use Rattle.layout.specs.Padded.{padded, all_zeros, four_bytes, tag_is}
 use Rattle.layout.specs.Leaders.{LeaderFits, encode_leader, length_of, leader_of, decode_leader}
 use Rattle.layout.specs.declared.leader.Leader.{Leader}
 use Rattle.std.proofs.lemmas.Bool.{and_parts, and_from}
-use Rattle.layout.proofs.Numbers.{four-number, four-back, opened, was-open, tag-letters}
+use Rattle.layout.proofs.Numbers.{behind, four-number, four-back, opened, was-open, tag-letters}
 use Rattle.layout.proofs.Zeros.{gets, gets-take, padded-front, zeros-replicate}
 
 abbrev made : List ℕ → ℕ → Leader
@@ -23,10 +23,6 @@ leader-is rest z short key =
 key-length : (k : List ℕ) → is_key k ≡ true → length k ≡ 22
 key-length k h = grind (arith, nat_tests)
 
--- What stands behind a key.
-behind : (k xs : List ℕ) (i : ℕ) → length k ≡ 22 → get_or (k ++ xs) (22 + i) 0 ≡ get_or xs i 0
-behind k xs i long = get_or-append_right k xs 22 (22 + i) 0 long (omega arith) ∙ ap (λ j. get_or xs j 0) (omega arith)
-
 pub leader-round : (l : Leader) → LeaderFits l → decode_leader (encode_leader l) ≡ Some l
 unfolding padded
 leader-round l fits =
@@ -38,10 +34,10 @@ leader-round l fits =
     let rest = key ++ (four ++ z) in
     let front = take_at key (four ++ z) 22 long in
     let zeros : all_zeros (drop 26 rest) ≡ true = ap all_zeros (sym (drop-drop 4 22 rest) ∙ ap (drop 4) (drop_at key (four ++ z) 22 long)) ∙ zeros-replicate n in
-    let a : get_or rest 22 0 ≡ l.length / 16777216 % 256 = behind key (four ++ z) 0 long in
-    let b : get_or rest 23 0 ≡ l.length / 65536 % 256 = behind key (four ++ z) 1 long in
-    let c : get_or rest 24 0 ≡ l.length / 256 % 256 = behind key (four ++ z) 2 long in
-    let d : get_or rest 25 0 ≡ l.length % 256 = behind key (four ++ z) 3 long in
+    let a : get_or rest 22 0 ≡ l.length / 16777216 % 256 = behind 22 key (four ++ z) 0 long in
+    let b : get_or rest 23 0 ≡ l.length / 65536 % 256 = behind 22 key (four ++ z) 1 long in
+    let c : get_or rest 24 0 ≡ l.length / 256 % 256 = behind 22 key (four ++ z) 2 long in
+    let d : get_or rest 25 0 ≡ l.length % 256 = behind 22 key (four ++ z) 3 long in
     let low : l.length < 2 ^ 32 = omega (arith, fits.1) in
     let back = four-number l.length low in
     let number : length_of rest ≡ l.length = cc in

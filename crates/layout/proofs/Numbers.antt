@@ -2,10 +2,12 @@
 --     four-back                           four bytes give a number, and that number's four bytes are these
 --     four-number                         a number of four bytes comes back from them
 --     two-back, two-number                the same for two bytes
---     opened, shut, was-open              a decoder behind tests that hold, and behind ones that do not
+--     opened, was-open                    a decoder behind tests that hold, and what it says that it answered
 --     tag-letters                         a tag that was found gives its letters
-use Rattle.std.proofs.Common.{◌≡◌, ℕ, ◌+◌, ◌*◌, ◌/◌, ◌%◌, ◌^◌, ◌<◌, Bool, true, false, cond, ◌&&◌, eqb, List, [], ◌∷◌, get_or, Some, None, Option, refl, arith}
+--     behind                              what stands behind the first bytes
+use Rattle.std.proofs.Common.{◌≡◌, ℕ, ◌+◌, ◌*◌, ◌/◌, ◌%◌, ◌^◌, ◌<◌, Bool, true, false, cond, ◌&&◌, eqb, List, [], ◌∷◌, ◌++◌, length, get_or, Some, None, Option, refl, ap, ◌∙◌, arith}
 use Rattle.std.proofs.lemmas.Bool.{and_parts}
+use Rattle.std.proofs.lemmas.List.{get_or-append_right}
 use Rattle.std.proofs.lemmas.Option.{none-some}
 use Rattle.std.proofs.lemmas.Bool.Decides.{Decides-eqb}
 use Rattle.layout.specs.Padded.{four_bytes, number4, tag_is}
@@ -38,10 +40,6 @@ two-back a b ha hb =
 pub opened : {X : Type 0} (a b : Bool) (x y : X) → a ≡ true → b ≡ true → cond (a && b) x y ≡ x
 opened a b x y p q = rw (p, q)
 
-pub shut : {X : Type 0} (a b : Bool) (x y : X) → b ≡ false → cond (a && b) x y ≡ y
-shut true b x y q = rw q
-shut false b x y q = refl
-
 pub was-open : {X : Type 0} (b : Bool) (x : Option X) (y : X) → cond b x None ≡ Some y → (b ≡ true) × (x ≡ Some y)
 was-open true x y e = (refl, e)
 was-open false x y e = absurd (none-some y e)
@@ -52,3 +50,6 @@ tag-letters a b c d s h =
     let y = and_parts (eqb (get_or s 1 0) b) _ x.1 in
     let z = and_parts (eqb (get_or s 2 0) c) _ y.1 in
     ((Decides-eqb (get_or s 0 0) a).0 x.0, (Decides-eqb (get_or s 1 0) b).0 y.0, (Decides-eqb (get_or s 2 0) c).0 z.0, (Decides-eqb (get_or s 3 0) d).0 z.1)
+
+pub behind : (a : ℕ) (front xs : List ℕ) (i : ℕ) → length front ≡ a → get_or (front ++ xs) (a + i) 0 ≡ get_or xs i 0
+behind a front xs i long = get_or-append_right front xs a (a + i) 0 long (omega arith) ∙ ap (λ j. get_or xs j 0) (omega arith)

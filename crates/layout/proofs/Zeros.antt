@@ -1,6 +1,6 @@
 -- Fields and then zeros: how a sector of that shape is written, tested and told apart.
---     zeros-replicate                      zeros pass the test
---     replicate-zeros                      what passes is zeros
+--     zeros-replicate                      zeros pass the test: the lemma on names, under this name of the test
+--     replicate-zeros                      what passes is zeros, likewise
 --     padded-front                         a sector whose end is zeros is its front, padded
 --     padded-more                          more fields behind those of a padded sector
 --     gets, padded-gets                    a padded sector by its first bytes, each by itself

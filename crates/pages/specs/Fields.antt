@@ -4,11 +4,11 @@
 --     item-fits, entry-fits            what is read from 24 or 32 bytes fits
 --     item, entry                      a record by its parts
 --     number_at                        the number in the four bytes from a place on
-use Rattle.std.specs.Prelude.{◌≡◌, ℕ, zero, suc, ◌+◌, ◌*◌, ◌^◌, ◌<◌, List, [], ◌∷◌, ◌++◌, length, take, slice_index, slice_index_or}
+use Rattle.std.specs.Prelude.{◌≡◌, ℕ, zero, suc, ◌+◌, ◌*◌, ◌^◌, ◌<◌, List, [], ◌∷◌, ◌++◌, length, take, slice_index}
 use Rattle.std.proofs.Common.{ap, ◌∙◌, arith}
-use Rattle.std.proofs.lemmas.List.{take_at, append_assoc, length-append, length-take, get_or-append_right}
+use Rattle.std.proofs.lemmas.List.{take_at, append_assoc, length-append, length-take}
 use Rattle.layout.specs.Padded.{four_bytes, number4}
-use Rattle.layout.proofs.Numbers.{four-number, two-number}
+use Rattle.layout.proofs.Numbers.{behind, four-number, two-number}
 use Rattle.names.specs.Names.{two_bytes}
 use Rattle.pages.specs.declared.records.Entry.{Entry}
 use Rattle.pages.specs.declared.records.Item.{Item}
@@ -26,10 +26,6 @@ item-long i f = simp length-append (omega arith)
 
 pub entry-long : (e : Entry) → EntryFit e → length (entry_bytes e) ≡ 32
 entry-long e f = simp length-append (omega arith)
-
--- what stands behind the first bytes
-behind : (a : ℕ) (front xs : List ℕ) (i : ℕ) → length front ≡ a → slice_index (front ++ xs) (a + i) ≡ slice_index xs i
-behind a front xs i l = get_or-append_right front xs a (a + i) 0 l (omega arith) ∙ ap (λ j. slice_index_or xs j 0) (omega arith)
 
 abbrev number_at : ℕ → List ℕ → ℕ
 number_at a bs = number4 (slice_index bs (a + 0)) (slice_index bs (a + 1)) (slice_index bs (a + 2)) (slice_index bs (a + 3))
