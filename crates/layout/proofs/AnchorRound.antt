@@ -3,7 +3,8 @@ use Rattle.std.proofs.Common.{◌≡◌, ℕ, zero, suc, ◌^◌, ◌<◌, true,
 use Rattle.geometry.specs.Thirds.{number_of, third_of}
 use Rattle.geometry.specs.declared.third.Third.{Third}
 use Rattle.geometry.specs.declared.third.Third.TheVariants.{Zero, One, Two}
-use Rattle.layout.specs.Padded.{padded, all_zeros, four_bytes, number4, tag_is}
+use Rattle.layout.specs.Padded.{Decodes, padded, all_zeros, four_bytes, number4, tag_is}
+use Rattle.layout.proofs.Decoded.{decodes}
 use Rattle.layout.specs.Anchors.{AnchorFits, encode_anchor, decode_anchor, anchor_at}
 use Rattle.layout.specs.declared.anchor.Anchor.{Anchor}
 use Rattle.std.proofs.lemmas.Bool.{and_parts}
@@ -43,3 +44,9 @@ anchor-exact s a long small e =
     let group : a.group < 2 ^ 32 = omega (arith, part.1, small 5, small 6, small 7, small 8) in
     let fields : gets 9 0 s ≡ 70 ∷ 83 ∷ 68 ∷ 65 ∷ number_of a.third ∷ four_bytes a.group = cc in
     (group, padded-gets 9 s long (omega arith) tests.1 ∙ ap padded fields)
+
+pub anchor-decodes : {s : List ℕ} {r : Option Anchor} → length s ≡ 512 → ((k : ℕ) → get_or s k 0 < 256) → r ≡ decode_anchor s → Decodes AnchorFits encode_anchor s r
+anchor-decodes = decodes AnchorFits encode_anchor decode_anchor anchor-round anchor-exact
+
+-- What the check takes up by itself where this decoder answers.
+pub ruleset anchors = (anchor-decodes)

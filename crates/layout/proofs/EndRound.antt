@@ -1,6 +1,7 @@
 -- A record's end comes back from its sector, and from no other.
-use Rattle.std.proofs.Common.{◌≡◌, ℕ, ◌<◌, true, ◌&&◌, List, [], ◌∷◌, ◌++◌, length, get_or, drop, replicate, Some, sym, refl, ap, ◌∙◌, arith}
-use Rattle.layout.specs.Padded.{padded, all_zeros, four_bytes, number4, tag_is}
+use Rattle.std.proofs.Common.{◌≡◌, ℕ, ◌<◌, true, ◌&&◌, List, [], ◌∷◌, ◌++◌, length, get_or, drop, replicate, Some, Option, sym, refl, ap, ◌∙◌, arith}
+use Rattle.layout.specs.Padded.{padded, all_zeros, four_bytes, number4, tag_is, Decodes}
+use Rattle.layout.proofs.Decoded.{decodes}
 use Rattle.layout.specs.Ends.{EndFits, encode_end, decode_end}
 use Rattle.layout.specs.declared.end.RecordEnd.{RecordEnd}
 use Rattle.std.proofs.lemmas.Bool.{and_parts}
@@ -27,3 +28,9 @@ end-exact s e long small is =
       (omega (arith, group, small 4, small 5, small 6, small 7), omega (arith, count, small 8)),
       padded-gets 9 s long (omega arith) tests.1 ∙ ap padded fields,
     )
+
+pub end-decodes : {s : List ℕ} {r : Option RecordEnd} → length s ≡ 512 → ((k : ℕ) → get_or s k 0 < 256) → r ≡ decode_end s → Decodes EndFits encode_end s r
+end-decodes = decodes EndFits encode_end decode_end end-round end-exact
+
+-- What the check takes up by itself where this decoder answers.
+pub ruleset ends = (end-decodes)

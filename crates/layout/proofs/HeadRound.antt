@@ -1,8 +1,9 @@
 -- A record's head comes back from its sector, and from no other.
-use Rattle.std.proofs.Common.{◌≡◌, ℕ, ◌-◌, ◌<◌, ◌≤◌, true, ◌&&◌, leb, List, [], ◌∷◌, ◌++◌, length, get_or, take, drop, replicate, Some, sym, ap, ◌∙◌, ap₂, arith, take-add}
+use Rattle.std.proofs.Common.{◌≡◌, ℕ, ◌-◌, ◌<◌, ◌≤◌, true, ◌&&◌, leb, List, [], ◌∷◌, ◌++◌, length, get_or, take, drop, replicate, Some, Option, sym, ap, ◌∙◌, ap₂, arith, take-add}
 use Rattle.std.proofs.lemmas.List.{take_at, drop_at, drop-drop, length-drop, length-take}
 use Rattle.std.proofs.lemmas.Bool.Decides.{nat_tests}
-use Rattle.layout.specs.Padded.{padded, all_zeros, four_bytes, number4, tag_is}
+use Rattle.layout.specs.Padded.{Decodes, padded, all_zeros, four_bytes, number4, tag_is}
+use Rattle.layout.proofs.Decoded.{decodes}
 use Rattle.layout.specs.Heads.{good_pages, HeadFits, encode_head, head_of, decode_head}
 use Rattle.layout.specs.declared.head.RecordHead.{RecordHead}
 use Rattle.std.proofs.lemmas.Bool.{and_parts}
@@ -55,3 +56,9 @@ head-exact limit s h long small is =
       ),
       padded-front 30 s long (omega arith) zeros ∙ ap padded (thirty s long ∙ ap₂ (λ a b. a ++ b) fields (sym pages)),
     )
+
+pub head-decodes : (limit : ℕ) {s : List ℕ} {r : Option RecordHead} → length s ≡ 512 → ((k : ℕ) → get_or s k 0 < 256) → r ≡ decode_head limit s → Decodes (HeadFits limit) encode_head s r
+head-decodes limit = decodes (HeadFits limit) encode_head (decode_head limit) (head-round limit) (head-exact limit)
+
+-- What the check takes up by itself where this decoder answers.
+pub ruleset heads = (head-decodes, nat_tests)

@@ -1,9 +1,10 @@
 -- A header comes back from its sector, and from no other.
-use Rattle.std.proofs.Common.{◌≡◌, ℕ, ◌+◌, ◌*◌, ◌^◌, ◌<◌, true, ◌&&◌, eqb, leb, List, ◌∷◌, ◌++◌, length, get_or, drop, replicate, Some, sym, refl, ap, ◌∙◌, ap₂, arith}
+use Rattle.std.proofs.Common.{◌≡◌, ℕ, ◌+◌, ◌*◌, ◌^◌, ◌<◌, true, ◌&&◌, eqb, leb, List, ◌∷◌, ◌++◌, length, get_or, drop, replicate, Some, Option, sym, refl, ap, ◌∙◌, ap₂, arith}
 use Rattle.std.proofs.lemmas.Bool.Decides.{nat_tests, Decides-eqb}
 use Rattle.geometry.specs.Places.{Good}
-use Rattle.layout.specs.Padded.{padded, all_zeros, four_bytes, number4, tag_is}
+use Rattle.layout.specs.Padded.{Decodes, padded, all_zeros, four_bytes, number4, tag_is}
 use Rattle.names.specs.Names.{two_bytes}
+use Rattle.layout.proofs.Decoded.{decodes}
 use Rattle.layout.specs.Headers.{HeaderFits, encode_header, good_numbers, header_of, decode_header}
 use Rattle.layout.specs.declared.header.Header.{Header}
 use Rattle.std.proofs.lemmas.Bool.{and_parts}
@@ -72,3 +73,9 @@ header-exact count s h long small is =
       ),
       padded-gets 12 s long (omega arith) more.1 ∙ ap padded fields,
     )
+
+pub header-decodes : (count : ℕ) {s : List ℕ} {r : Option Header} → length s ≡ 512 → ((k : ℕ) → get_or s k 0 < 256) → r ≡ decode_header count s → Decodes (HeaderFits count) encode_header s r
+header-decodes count = decodes (HeaderFits count) encode_header (decode_header count) (header-round count) (header-exact count)
+
+-- What the check takes up by itself where this decoder answers.
+pub ruleset headers = (header-decodes, nat_tests)

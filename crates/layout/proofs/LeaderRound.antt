@@ -1,10 +1,11 @@
 -- A leader comes back from its sector, and from no other.
-use Rattle.std.proofs.Common.{◌≡◌, ℕ, ◌+◌, ◌-◌, ◌/◌, ◌%◌, ◌^◌, ◌<◌, ◌≤◌, true, ◌&&◌, leb, List, [], ◌∷◌, ◌++◌, length, get_or, take, drop, replicate, Some, sym, ap, ◌∙◌, ap₂, arith, take-add}
+use Rattle.std.proofs.Common.{◌≡◌, ℕ, ◌+◌, ◌-◌, ◌/◌, ◌%◌, ◌^◌, ◌<◌, ◌≤◌, true, ◌&&◌, leb, List, [], ◌∷◌, ◌++◌, length, get_or, take, drop, replicate, Some, Option, sym, ap, ◌∙◌, ap₂, arith, take-add}
 use Rattle.std.proofs.lemmas.List.{take_at, drop_at, drop-drop, append_assoc, get_or-drop, length-drop}
 use Rattle.std.proofs.lemmas.Bool.Decides.{nat_tests}
 use Rattle.geometry.specs.Sizes.{longest}
 use Rattle.names.specs.Names.{is_key}
-use Rattle.layout.specs.Padded.{padded, all_zeros, four_bytes, tag_is}
+use Rattle.layout.specs.Padded.{Decodes, padded, all_zeros, four_bytes, tag_is}
+use Rattle.layout.proofs.Decoded.{decodes}
 use Rattle.layout.specs.Leaders.{LeaderFits, encode_leader, length_of, leader_of, decode_leader}
 use Rattle.layout.specs.declared.leader.Leader.{Leader}
 use Rattle.std.proofs.lemmas.Bool.{and_parts, and_from}
@@ -66,3 +67,9 @@ leader-exact s l long small is =
     let front : take 30 s ≡ 70 ∷ 83 ∷ 68 ∷ 76 ∷ (l.key ++ four_bytes l.length) =
     take-add 4 26 s ∙ ap₂ (λ a b. a ++ b) (gets-take 4 0 s (omega arith) ∙ tag) after in
     ((ap is_key key ∙ more.1, omega (arith, size)), padded-front 30 s long (omega arith) zeros ∙ ap padded front)
+
+pub leader-decodes : {s : List ℕ} {r : Option Leader} → length s ≡ 512 → ((k : ℕ) → get_or s k 0 < 256) → r ≡ decode_leader s → Decodes LeaderFits encode_leader s r
+leader-decodes = decodes LeaderFits encode_leader decode_leader leader-round leader-exact
+
+-- What the check takes up by itself where this decoder answers.
+pub ruleset leaders = (leader-decodes, nat_tests)

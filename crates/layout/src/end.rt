@@ -1,9 +1,9 @@
 // The end of a record in the log.
-ghost use Rattle.std.specs.Prelude.{◌≡◌, length};
+ghost use Rattle.std.specs.Prelude.{◌≡◌};
 ghost use Rattle.layout.specs.Ends.{encode_end, decode_end, EndFits};
 
 use crate::carried::Carried;
-use crate::rest::are_zeros;
+use crate::rest::are_zeros_from;
 use padding::padded;
 
 /// The group number of a record, and how many pages it has.
@@ -28,25 +28,17 @@ impl Carried for RecordEnd {
         *sector = padded(&[b'F', b'S', b'D', b'E', a, b, c, d, self.count]);
     }
 
+    #[tactic(auto, using(crate::proofs::EndRound::ends))]
     fn decode(sector: &[u8; 512], _known: ()) -> Option<RecordEnd> {
-        end_in(sector)
+        let [b'F', b'S', b'D', b'E', a, b, c, d, count, ..] = sector else {
+            return None;
+        };
+        if !are_zeros_from(sector, 9) {
+            return None;
+        }
+        Some(RecordEnd {
+            group: u32::from_be_bytes([*a, *b, *c, *d]),
+            count: *count,
+        })
     }
-}
-
-// The end in the bytes of a sector, if they are right.
-// Over a slice, whose length each kind asks for: no proof is made of a pattern with a rest over an array.
-fn end_in(bytes: &[u8]) -> Option<RecordEnd>
-    requires { length bytes.now ≡ 512 }
-    ensures { result ≡ decode_end bytes.now }
-{
-    let [b'F', b'S', b'D', b'E', a, b, c, d, count, rest @ ..] = bytes else {
-        return None;
-    };
-    if !are_zeros(rest) {
-        return None;
-    }
-    Some(RecordEnd {
-        group: u32::from_be_bytes([*a, *b, *c, *d]),
-        count: *count,
-    })
 }

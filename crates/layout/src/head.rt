@@ -1,5 +1,5 @@
 // The head of a record in the log.
-ghost use Rattle.std.specs.Prelude.{◌≡◌, length, nat_lt};
+ghost use Rattle.std.specs.Prelude.{◌≡◌, nat_lt};
 ghost use Rattle.std.specs.List.{list_all};
 ghost use Rattle.layout.specs.Heads.{encode_head, decode_head, head_of, HeadFits, good_pages, rises};
 
@@ -32,26 +32,18 @@ impl Carried for RecordHead {
         sector[9..30].copy_from_slice(&self.pages);
     }
 
+    #[tactic(auto, using(crate::proofs::HeadRound::heads))]
     fn decode(sector: &[u8; 512], limit: u8) -> Option<RecordHead> {
-        head_in(sector, limit)
+        let [b'F', b'S', b'D', b'H', a, b, c, d, count, ..] = sector else {
+            return None;
+        };
+        let group = u32::from_be_bytes([*a, *b, *c, *d]);
+        head_of(group, *count, sector.last_chunk().unwrap(), limit)
     }
 }
 
-// The head in the bytes of a sector, if they are right.
-// Over a slice, whose length each kind asks for: no proof is made of a pattern with a rest over an array.
-fn head_in(bytes: &[u8], limit: u8) -> Option<RecordHead>
-    requires { length bytes.now ≡ 512 }
-    ensures { result ≡ decode_head limit bytes.now }
-{
-    let [b'F', b'S', b'D', b'H', a, b, c, d, count, rest @ ..] = bytes else {
-        return None;
-    };
-    head_of(u32::from_be_bytes([*a, *b, *c, *d]), *count, rest, limit)
-}
-
 // The head with these numbers and the bytes after them, if they are right.
-fn head_of(group: u32, count: u8, rest: &[u8], limit: u8) -> Option<RecordHead>
-    requires { length rest.now ≡ 503 }
+fn head_of(group: u32, count: u8, rest: &[u8; 503], limit: u8) -> Option<RecordHead>
     ensures { result ≡ head_of limit group count rest.now }
 {
     let (pages, rest) = rest.split_first_chunk()?;

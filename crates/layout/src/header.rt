@@ -1,9 +1,9 @@
 // The header: the numbers of a volume.
-ghost use Rattle.std.specs.Prelude.{◌≡◌, length};
+ghost use Rattle.std.specs.Prelude.{◌≡◌};
 ghost use Rattle.layout.specs.Headers.{encode_header, decode_header, header_of, HeaderFits};
 
 use crate::carried::Carried;
-use crate::rest::are_zeros;
+use crate::rest::are_zeros_from;
 use geometry::geometry::Geometry;
 use padding::padded;
 
@@ -33,41 +33,18 @@ impl Carried for Header {
         *sector = padded(&[b'F', b'S', b'D', b'V', 1, self.pages, t, u, a, b, c, d]);
     }
 
+    #[tactic(auto, using(crate::proofs::HeaderRound::headers))]
     fn decode(sector: &[u8; 512], count: u32) -> Option<Header> {
-        header_in(sector, count)
+        let [b'F', b'S', b'D', b'V', 1, pages, t, u, a, b, c, d, ..] = sector else {
+            return None;
+        };
+        if !are_zeros_from(sector, 12) {
+            return None;
+        }
+        let third = u16::from_be_bytes([*t, *u]);
+        let sectors = u32::from_be_bytes([*a, *b, *c, *d]);
+        header_of(*pages, third, sectors, count)
     }
-}
-
-// The header in the bytes of a sector, if they are right.
-// Over a slice, whose length each kind asks for: no proof is made of a pattern with a rest over an array.
-fn header_in(bytes: &[u8], count: u32) -> Option<Header>
-    requires { length bytes.now ≡ 512 }
-    ensures { result ≡ decode_header count bytes.now }
-{
-    let [
-        b'F',
-        b'S',
-        b'D',
-        b'V',
-        1,
-        pages,
-        t,
-        u,
-        a,
-        b,
-        c,
-        d,
-        rest @ ..,
-    ] = bytes
-    else {
-        return None;
-    };
-    if !are_zeros(rest) {
-        return None;
-    }
-    let third = u16::from_be_bytes([*t, *u]);
-    let sectors = u32::from_be_bytes([*a, *b, *c, *d]);
-    header_of(*pages, third, sectors, count)
 }
 
 // The header with these numbers, if they are right on a disk of `count` sectors.

@@ -1,5 +1,5 @@
 // The leader: which file an extent belongs to.
-ghost use Rattle.std.specs.Prelude.{◌≡◌, length};
+ghost use Rattle.std.specs.Prelude.{◌≡◌};
 ghost use Rattle.layout.specs.Leaders.{encode_leader, decode_leader, leader_of, LeaderFits};
 
 use crate::carried::Carried;
@@ -31,26 +31,17 @@ impl Carried for Leader {
         sector[26..30].copy_from_slice(&self.length.to_be_bytes());
     }
 
+    #[tactic(auto, using(crate::proofs::LeaderRound::leaders))]
     fn decode(sector: &[u8; 512], _known: ()) -> Option<Leader> {
-        leader_in(sector)
+        let [b'F', b'S', b'D', b'L', ..] = sector else {
+            return None;
+        };
+        leader_of(sector.last_chunk().unwrap())
     }
 }
 
-// The leader in the bytes of a sector, if they are right.
-// Over a slice, whose length each kind asks for: no proof is made of a pattern with a rest over an array.
-fn leader_in(bytes: &[u8]) -> Option<Leader>
-    requires { length bytes.now ≡ 512 }
-    ensures { result ≡ decode_leader bytes.now }
-{
-    let [b'F', b'S', b'D', b'L', rest @ ..] = bytes else {
-        return None;
-    };
-    leader_of(rest)
-}
-
 // The leader in the bytes after the letters, if they are right.
-fn leader_of(rest: &[u8]) -> Option<Leader>
-    requires { length rest.now ≡ 508 }
+fn leader_of(rest: &[u8; 508]) -> Option<Leader>
     ensures { result ≡ leader_of rest.now }
 {
     let (key, rest) = rest.split_first_chunk()?;

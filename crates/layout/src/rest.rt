@@ -1,5 +1,5 @@
 // What stands behind the fields of a sector: zeros.
-ghost use Rattle.std.specs.Prelude.{◌≡◌};
+ghost use Rattle.std.specs.Prelude.{◌≡◌, drop};
 ghost use Rattle.layout.specs.Padded.{all_zeros};
 
 // Whether all of the bytes are zero.
@@ -8,4 +8,12 @@ pub(crate) fn are_zeros(bytes: &[u8]) -> bool
     ensures { result ≡ all_zeros bytes.now }
 {
     bytes.iter().all(|byte| *byte == 0)
+}
+
+// Whether all bytes of a sector behind the first ones are zero.
+#[tactic(auto, unfolding(crate::specs::Padded::all_zeros))]
+pub(crate) fn are_zeros_from(sector: &[u8; 512], first: usize) -> bool
+    ensures { result ≡ all_zeros (drop first sector.now) }
+{
+    sector.iter().skip(first).all(|byte| *byte == 0)
 }
