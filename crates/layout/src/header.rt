@@ -8,7 +8,7 @@ use geometry::geometry::Geometry;
 use padding::padded;
 
 /// The number of pages, the sectors of a third and the sectors of the disk.
-// No Geometry: a header may hold numbers that are not good, and holds each in its own number of bytes.
+// Plain numbers and no Geometry, which holds good numbers only: a narrower field would ask more of those who encode a header.
 #[derive(Clone, Copy, PartialEq, Eq, Debug)]
 pub struct Header {
     pub pages: u8,

@@ -9,7 +9,7 @@ use names::key::Key;
 use padding::padded;
 
 /// The bytes of a file's key, and the file's length.
-// No Key: a leader may hold bytes that are no key.
+// Plain bytes and no Key: a narrower field would ask more of those who encode a leader.
 #[derive(Clone, Copy, PartialEq, Eq, Debug)]
 pub struct Leader {
     pub key: [u8; 22],
