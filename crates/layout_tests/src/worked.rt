@@ -12,6 +12,7 @@ use std::process::Abort;
 const BITS: [u8; 8] = [1, 2, 4, 8, 16, 32, 64, 128];
 
 // Checks that a sector is not right when one bit of the byte at `i` is turned over, whichever it is.
+// The tests of pages turn bits over as well: one function for both would be library code, which may not abort, and its contract would say no less than the loop.
 fn turned<C: Carried + Drop>(rt: &impl Abort, known: C::Known, sector: &[u8; 512], i: usize) {
     assert!(rt; i < 512);
     for bit in BITS {

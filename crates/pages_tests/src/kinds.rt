@@ -22,6 +22,7 @@ pub fn put(rt: &impl Abort, page: &mut [u8; 512], at: usize, bytes: &[u8]) {
 }
 
 /// Checks that no byte of `from..to` may be another: whichever of its bits is turned over, the page is of neither kind.
+// The tests of tagged sectors turn bits over as well: one function for both would be library code, which may not abort, and its contract would say no less than the loop.
 pub fn are_fixed(rt: &impl Abort, page: &[u8; 512], from: usize, to: usize) {
     // By places: a place is what is changed, and what a failure names.
     for i in from..to {
