@@ -11,12 +11,15 @@ use crate::search::Leaves;
 use arrayvec::ArrayVec;
 use pages::page::read_row;
 use pages::paged::{Paged, image_at};
-use pages::records::Entry;
+use pages::records::{Entry, MOST_ENTRIES, MOST_ITEMS};
 use refusal::Refusal;
 use rows::row::Row;
 
+// The most extents of a register: those of 20 leaves of 15 entries.
+const MOST_EXTENTS: usize = MOST_ITEMS * MOST_ENTRIES;
+
 // Adds the extents of a leaf's entries.
-fn add_extents(entries: &[Entry], extents: &mut ArrayVec<Extent, 300>)
+fn add_extents(entries: &[Entry], extents: &mut ArrayVec<Extent, MOST_EXTENTS>)
     requires { array_vec_len extents.old + length entries.now ≤ 300 }
     ensures { extents.new.items ≡ extents.old.items ++ map extent entries.now }
 {
@@ -27,13 +30,13 @@ fn add_extents(entries: &[Entry], extents: &mut ArrayVec<Extent, 300>)
 
 impl<'a, P: Paged> Leaves<'a, P> {
     // The extents of all entries.
-    fn extents(&self) -> ArrayVec<Extent, 300>
+    fn extents(&self) -> ArrayVec<Extent, MOST_EXTENTS>
         ensures { result.items ≡ map extent (entries (map (node_of (map P.image self.now.pages.now)) self.now.items)) }
     {
         let mut extents = ArrayVec::new();
         for item in self.items.as_slice() {
             let page = image_at(self.pages, usize::from(item.page));
-            let entries: Row<Entry, 15> = read_row(&page, 15);
+            let entries: Row<Entry, MOST_ENTRIES> = read_row(&page, MOST_ENTRIES);
             add_extents(entries.as_slice(), &mut extents);
         }
         extents

@@ -6,7 +6,7 @@ ghost use Rattle.register_check.specs.Leaves.{under, entry_right, leaf_right};
 use crate::extents::Area;
 use crate::keys::{is_key, rising};
 use pages::page::formed;
-use pages::records::Entry;
+use pages::records::{Entry, LEAF};
 
 /// What bounds the entries of a leaf: its separator, that of the next leaf if there is one, and the sectors for files.
 #[derive(Clone, Copy)]
@@ -48,7 +48,7 @@ impl Limits {
         requires { length entries.now ≤ 15 }
         ensures { result ≡ leaf_right self.now single page.now entries.now }
     {
-        formed(b'L', entries, page)
+        formed(LEAF, entries, page)
             && (single || !entries.is_empty())
             && rising(entries)
             && self.entries_right(entries)

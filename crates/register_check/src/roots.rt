@@ -6,7 +6,7 @@ ghost use Rattle.register_check.specs.Roots.{zeros_first, keys_behind, leaf_page
 
 use crate::keys::{is_key, rising};
 use pages::page::formed;
-use pages::records::Item;
+use pages::records::{Item, ROOT};
 
 // Whether there are items, and the first separator is zeros.
 #[tactic(auto, unfolding(register::specs::Images::zero_key))]
@@ -55,7 +55,7 @@ pub(crate) fn root_right(page: &[u8; 512], items: &[Item], pages: usize) -> bool
     requires some { 1 ≤ pages }
     ensures { result ≡ root_right pages page.now items.now }
 {
-    formed(b'R', items, page)
+    formed(ROOT, items, page)
         && zeros_first(items)
         && keys_behind(items)
         && items.len() <= pages - 1

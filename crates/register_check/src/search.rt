@@ -10,7 +10,7 @@ use crate::extents::Area;
 use crate::leaves::Limits;
 use pages::page::read_row;
 use pages::paged::{Paged, image_at};
-use pages::records::{Entry, Item};
+use pages::records::{Entry, Item, MOST_ENTRIES, MOST_ITEMS};
 use refusal::Refusal;
 use rows::row::Row;
 
@@ -18,7 +18,7 @@ use rows::row::Row;
 #[derive(Drop)]
 pub(crate) struct Leaves<'a, P: Paged> {
     pub pages: &'a [P],
-    pub items: Row<Item, 20>,
+    pub items: Row<Item, MOST_ITEMS>,
     ghost named: { AllByRecursion (λ i. i.page < length pages.now) items } by { AllByRecursion-prop _ (λ i. le_prop) items },
 }
 
@@ -36,7 +36,7 @@ fn leaf_right<P: Paged>(pages: &[P], page: u16, limits: &Limits, single: bool) -
     ensures { result ≡ leaf_right limits.now single (page_at (map P.image pages.now) page) (leaf_of (map P.image pages.now) page) }
 {
     let page = image_at(pages, usize::from(page));
-    let entries: Row<Entry, 15> = read_row(&page, 15);
+    let entries: Row<Entry, MOST_ENTRIES> = read_row(&page, MOST_ENTRIES);
     limits.leaf_right(single, &page, entries.as_slice())
 }
 
