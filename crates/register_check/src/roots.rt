@@ -51,14 +51,13 @@ fn pages_right(items: &[Item], pages: usize) -> bool
 
 // Whether a page with these items is a right root.
 pub(crate) fn root_right(page: &[u8; 512], items: &[Item], pages: usize) -> bool
-    requires few { length items.now ≤ 20 }
-    requires some { 1 ≤ pages }
+    requires { length items.now ≤ 20 }
     ensures { result ≡ root_right pages page.now items.now }
 {
     formed(ROOT, items, page)
         && zeros_first(items)
         && keys_behind(items)
-        && items.len() <= pages - 1
+        && items.len() <= pages.saturating_sub(1)
         && rising(items)
         && pages_right(items, pages)
 }
