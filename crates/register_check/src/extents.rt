@@ -7,7 +7,7 @@ use geometry::sizes::LONGEST;
 use pages::records::Entry;
 
 /// The sectors of a file: the first, and how many.
-#[derive(Clone, Copy, Default, PartialEq, Eq, PartialOrd, Ord)]
+#[derive(Clone, Copy, Default, PartialEq, Eq, PartialOrd, Ord, Debug)]
 pub(crate) struct Extent {
     pub start: u32,
     pub sectors: u32,

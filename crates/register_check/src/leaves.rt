@@ -9,7 +9,7 @@ use pages::page::formed;
 use pages::records::{Entry, LEAF};
 
 /// What bounds the entries of a leaf: its separator, that of the next leaf if there is one, and the sectors for files.
-#[derive(Clone, Copy)]
+#[derive(Clone, Copy, PartialEq, Eq, Debug)]
 pub(crate) struct Limits {
     pub separator: [u8; 22],
     pub next: Option<[u8; 22]>,
