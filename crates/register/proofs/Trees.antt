@@ -4,10 +4,13 @@
 --     Good                    the rules of a tree, its separators and keys are good, and its entries fit
 --     register-tree           a register's pages hold its tree, and that is good
 --     items-tree              the items of that tree are the root's
+--     items-fit               items with good separators and pages of leaves fit
+--     all-entries             of all entries of a tree, and so of those of each node
 --     tree-register           pages that hold a good tree are a register, and that is its tree
 --     register-after          the same after writes to a register
 use Rattle.std.proofs.Common.{◌≡◌, ℕ, ◌<◌, ◌≤◌, true, List, [], ◌∷◌, ◌++◌, map, length, sym, refl, ap, ◌∙◌, subst, arith}
 use Rattle.std.specs.List.{AllByRecursion}
+use Rattle.std.proofs.ByRecursion.{All-map}
 use Rattle.std.proofs.lemmas.List.{length-map, map-append}
 use Rattle.names.specs.Names.{is_byte_key}
 use Rattle.names.specs.Orders.{before}
@@ -67,17 +70,13 @@ register-tree P images r =
       record { shape = r.shape; separators = subst Separators e r.separators; keys = r.keys; fit = r.entries_fit },
     )
 
-separators-long : (is : List Item) → Separators is → AllByRecursion (λ i. length i.separator ≡ 22) is
-separators-long [] s = tt
-separators-long (i ∷ is) s = (ap length s.0 ∙ zero_key-long, rest is s.1)
-  where
-    rest : (is : List Item) → AllByRecursion (λ i. is_byte_key i.separator ≡ true) is → AllByRecursion (λ i. length i.separator ≡ 22) is
-    rest [] a = tt
-    rest (i ∷ is) a = (key-long i.separator a.0, rest is a.1)
+keys-fit : (P : ℕ) (is : List Item) → P ≤ 21 → AllByRecursion (λ i. is_byte_key i.separator ≡ true) is → AllByRecursion (λ i. (1 ≤ i.page) × (i.page < P)) is → AllByRecursion ItemFit is
+keys-fit P [] m s r = tt
+keys-fit P (i ∷ is) m s r = ((key-long i.separator s.0, omega (arith, r.0)), keys-fit P is m s.1 r.1)
 
-pub items-good : (P : ℕ) → P ≤ 21 → (t : Tree) → AllByRecursion (λ i. length i.separator ≡ 22) (items_for t) → AllByRecursion (λ n. (1 ≤ n.page) × (n.page < P)) t → AllByRecursion ItemFit (items_for t)
-items-good P most [] s r = tt
-items-good P most (n ∷ t) s r = ((s.0, omega arith), items-good P most t s.1 r.1)
+pub items-fit : (P : ℕ) (is : List Item) → P ≤ 21 → Separators is → AllByRecursion (λ i. (1 ≤ i.page) × (i.page < P)) is → AllByRecursion ItemFit is
+items-fit P [] m s r = tt
+items-fit P (i ∷ is) m s r = ((ap length s.0 ∙ zero_key-long, omega (arith, r.0)), keys-fit P is m s.1 r.1)
 
 pub all-entries : {E K : Type 0} (Q : E → Type 0) (t : List (Node K E)) → AllByRecursion Q (entries t) → AllByRecursion (λ n. AllByRecursion Q n.entries) t
 all-entries Q [] a = tt
@@ -96,7 +95,7 @@ nodes-read images (n ∷ t) a = ap (λ es. node n.sep n.page es ∷ map (node_of
 
 pub tree-register : (P : ℕ) (images : List (List ℕ)) (t : Tree) → 2 ≤ P → P ≤ 21 → length images ≡ P → Held images t → Good P t → IsRegister P images × (tree_of images ≡ t)
 tree-register P images t least most all h g =
-    let f = items-good P most t (separators-long (items_for t) g.separators) g.shape.range in
+    let f = items-fit P (items_for t) most g.separators (All-map (λ i. (1 ≤ i.page) × (i.page < P)) item_for t g.shape.range) in
     let few : length (items_for t) ≤ 20 = omega (arith, g.shape.few, length-map t item_for) in
     let is : items_of images ≡ items_for t = ap (records_of item_of 24 20) h.root ∙ page-back item_bytes item_of 24 ItemFit item-long item-back 82 20 (items_for t) f few (omega arith) (omega arith) in
     let e : tree_of images ≡ t = ap (map (node_of images)) is ∙ nodes-read images t (leaves-read images t h.leaves (all-entries EntryFit t g.fit) g.shape.sizes) in (

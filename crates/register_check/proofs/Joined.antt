@@ -1,21 +1,15 @@
 -- A fact of all entries of a tree, leaf by leaf.
 --     all-joined       of the entries of each leaf, and so of all
---     all-split        of all, and so of the entries of each leaf
 --     all-mapped       of the images of elements, and so of the elements
 use Rattle.std.proofs.Common.{ℕ, List, [], ◌∷◌, map}
 use Rattle.std.specs.List.{AllByRecursion}
 use Rattle.std.proofs.ByRecursion.{All-append}
-use Rattle.rows.proofs.Sorting.{all-parts}
 use Rattle.tree.specs.Tree.{Node, entries}
 use Rattle.pages.specs.declared.records.Entry.{Entry}
 
 pub all-joined : (P : Entry → Type 0) (t : List (Node (List ℕ) Entry)) → AllByRecursion (λ n. AllByRecursion P n.entries) t → AllByRecursion P (entries t)
 all-joined P [] a = tt
 all-joined P (n ∷ t) a = All-append P n.entries (entries t) a.0 (all-joined P t a.1)
-
-pub all-split : (P : Entry → Type 0) (t : List (Node (List ℕ) Entry)) → AllByRecursion P (entries t) → AllByRecursion (λ n. AllByRecursion P n.entries) t
-all-split P [] a = tt
-all-split P (n ∷ t) a = let h = all-parts P n.entries (entries t) a in (h.0, all-split P t h.1)
 
 pub all-mapped : {X Y : Type 0} (P : Y → Type 0) (f : X → Y) (xs : List X) → AllByRecursion P (map f xs) → AllByRecursion (λ x. P (f x)) xs
 all-mapped P f [] a = tt

@@ -9,6 +9,5 @@ pub mod LeafRules
 pub mod LeafSearch
 pub mod Joined
 pub mod TreeRules
-pub mod Fitting
 pub mod Registers
 pub mod Verdicts

@@ -23,9 +23,9 @@ use Rattle.register_check.specs.Extents.{Apart as ExtentsApart}
 use Rattle.register_check.specs.Leaves.{limits, EntryRight, LeafRight}
 use Rattle.register_check.specs.Faults.{extents_of, Kept, IsRootRight}
 use Rattle.register.proofs.ZeroKey.{key-long}
-use Rattle.register_check.proofs.Fitting.{items-fit}
+use Rattle.register.proofs.Trees.{items-fit, all-entries}
 use Rattle.register_check.proofs.LeafSearch.{LeavesRight}
-use Rattle.register_check.proofs.Joined.{all-joined, all-split, all-mapped}
+use Rattle.register_check.proofs.Joined.{all-joined, all-mapped}
 use Rattle.register_check.proofs.TreeRules.{fine-from, rises-from, leaves-from}
 
 every : {X : Type 0} (Q : X → Type 0) (xs : List X) → ((x : X) → Q x) → AllByRecursion Q xs
@@ -65,8 +65,8 @@ module _ (first sectors P : ℕ) (images : List (List ℕ)) where
   abbrev all-leaves : (Q : Item → Type 0) → ((i : Item) (next : Option (List ℕ)) → LeafRight (limits i.separator next first sectors) single (page_at images i.page) (leaf_of images i.page) → Q i) → Right → AllByRecursion Q items
   all-leaves Q h r = each-leaf first sectors single images Q h items r.leaves
 
-  all-entries : (Q : Entry → Type 0) → ((k : List ℕ) (next : Option (List ℕ)) (e : Entry) → EntryRight (limits k next first sectors) e → Q e) → Right → AllByRecursion Q (entries_of images)
-  all-entries Q h r =
+  each-entry : (Q : Entry → Type 0) → ((k : List ℕ) (next : Option (List ℕ)) (e : Entry) → EntryRight (limits k next first sectors) e → Q e) → Right → AllByRecursion Q (entries_of images)
+  each-entry Q h r =
       all-joined Q (tree_of images)
       (All-map (λ n. AllByRecursion Q n.entries) (node_of images) items (all-leaves (λ i. AllByRecursion Q (leaf_of images i.page)) (λ i next q. All-weaker (EntryRight (limits i.separator next first sectors)) Q (h i.separator next) (leaf_of images i.page) q.entries) r))
 
@@ -94,16 +94,16 @@ module _ (first sectors P : ℕ) (images : List (List ℕ)) where
       root = r.root.form;
       leaves = All-map (λ n. page_at images n.page ≡ leaf_page n.entries) (node_of images) items (all-leaves (λ i. page_at images i.page ≡ leaf_page (leaf_of images i.page)) (λ i next q. q.form) r);
       separators = r.root.separators;
-      keys = all-entries (λ e. is_byte_key e.key ≡ true) (λ k next e q. q.key) r;
+      keys = each-entry (λ e. is_byte_key e.key ≡ true) (λ k next e q. q.key) r;
       items_fit = items-fit P items most r.root.separators r.root.range;
-      entries_fit = all-entries EntryFit (λ k next e q. (key-long e.key q.key, omega (arith, q.placed.ends), omega (arith, q.placed.length))) r;
+      entries_fit = each-entry EntryFit (λ k next e q. (key-long e.key q.key, omega (arith, q.placed.ends), omega (arith, q.placed.length))) r;
     },
-    all-entries (InPlace first sectors) (λ k next e q. q.placed) r,
+    each-entry (InPlace first sectors) (λ k next e q. q.placed) r,
     r.apart,
   )
 
   abbrev held : (P : Entry → Type 0) → AllByRecursion P (entries_of images) → AllByRecursion (λ (i : Item). AllByRecursion P (leaf_of images i.page)) items
-  held P a = all-mapped (λ n. AllByRecursion P n.entries) (node_of images) items (all-split P (tree_of images) a)
+  held P a = all-mapped (λ n. AllByRecursion P n.entries) (node_of images) items (all-entries P (tree_of images) a)
 
   filled-from : IsRegister P images → AllByRecursion (λ (i : Item). single ≡ false → 0 < length (leaf_of images i.page)) items
   filled-from k =
