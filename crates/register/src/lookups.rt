@@ -53,8 +53,7 @@ impl<'a, P: Paged> Lookup<'a, P> {
 
     // Reads the root, and the leaf that a key belongs to: that of the last item whose separator is not above it.
     pub(crate) fn home(&self, key: &[u8; 22]) -> Seat
-        ensures seated { Seated (length self.now.pages.now) (map P.image self.now.pages.now) key.now result }
-        ensures long { length key.now ≡ 22 }
+        ensures { Seated (length self.now.pages.now) (map P.image self.now.pages.now) key.now result }
     {
         let items: Row<Item, MOST_ITEMS> = read_row(&image_at(self.pages, 0), MOST_ITEMS);
         let at = items.find(key) - 1;

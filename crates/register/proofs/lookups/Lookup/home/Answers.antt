@@ -14,8 +14,8 @@ overflow_sub-at g c = let f = seat-found c.args.self.now.kept c.told-key (c.read
 pub leaf-leaf-requires : goal.leaf-leaf-requires
 leaf-leaf-requires g c = let f = seat-found c.args.self.now.kept c.told-key (c.read_row-items.ensures ∙ ap (records_of item_of 24 20) c.image_at.ensures) (c.find-at.ensures.value ∙ up_to-before _ _) in rw c.as_slice.ensures.records f.to
 
-pub returns-clause-seated : goal.returns-clause-seated
-returns-clause-seated g c =
+pub returns : goal.returns
+returns g c =
     let held = c.read_row-items.ensures ∙ ap (records_of item_of 24 20) c.image_at.ensures in
     let f = seat-found c.args.self.now.kept c.told-key held (c.find-at.ensures.value ∙ up_to-before _ _) in
     let at = c.find-at.result - 1 in
