@@ -87,13 +87,13 @@ impl<D: Spoilable> Disk for Failing<D> {
         ensures due { StartDue D.Disk.state self.old result self.new }
         ensures refuses { StartRefuses D.Disk.state self.old self.new }
     {
-        self.below.start()?;
-        if let Phase::Before(0) = self.phase {
-            self.phase = Phase::Off(());
-            return Err(Fault::PowerOff(0));
+        match self.phase {
+            Phase::Before(0) => {
+                self.below.start()?;
+                self.phase.fail(0, ())
+            }
+            _ => self.phase.passed(self.below.start()),
         }
-        self.phase = self.phase.done();
-        Ok(())
     }
 
     fn read(&mut self, sector: u32, buffer: &mut [u8; 512]) -> Result<(), Fault>
@@ -107,15 +107,10 @@ impl<D: Spoilable> Disk for Failing<D> {
         match self.phase {
             Phase::Before(0) => {
                 probe(&mut self.below, sector)?;
-                self.phase = Phase::Off(());
-                Err(Fault::PowerOff(sector))
+                self.phase.fail(sector, ())
             }
             Phase::Off(()) => Err(Fault::PowerOff(sector)),
-            Phase::Before(_) | Phase::On(()) => {
-                self.below.read(sector, buffer)?;
-                self.phase = self.phase.done();
-                Ok(())
-            }
+            Phase::Before(_) | Phase::On(()) => self.phase.passed(self.below.read(sector, buffer)),
         }
     }
 
@@ -131,15 +126,10 @@ impl<D: Spoilable> Disk for Failing<D> {
             Phase::Before(0) => {
                 reach(&mut self.below, sector)?;
                 self.leave(sector, bytes);
-                self.phase = Phase::Off(());
-                Err(Fault::PowerOff(sector))
+                self.phase.fail(sector, ())
             }
             Phase::Off(()) => Err(Fault::PowerOff(sector)),
-            Phase::Before(_) | Phase::On(()) => {
-                self.below.write(sector, bytes)?;
-                self.phase = self.phase.done();
-                Ok(())
-            }
+            Phase::Before(_) | Phase::On(()) => self.phase.passed(self.below.write(sector, bytes)),
         }
     }
 }

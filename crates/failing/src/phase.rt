@@ -1,6 +1,8 @@
 // The course of a disk whose power fails once.
 ghost use Rattle.std.specs.Prelude.{◌≡◌};
-ghost use Rattle.failing.specs.Phases.{done};
+ghost use Rattle.failing.specs.Phases.{done, passed, Fails};
+
+use disk::faults::Fault;
 
 /// Where a disk is in that course. `L` is what it keeps of the sectors that are lost.
 #[derive(Clone, Copy, PartialEq, Eq, Debug)]
@@ -22,5 +24,23 @@ impl<L: Copy> Phase<L> {
             Phase::Before(calls) => Phase::Before(calls.saturating_sub(1)),
             Phase::Off(lost) | Phase::On(lost) => Phase::On(lost),
         }
+    }
+
+    /// Counts a call by its answer, which it hands on: one that is refused does not count.
+    pub fn passed(&mut self, answer: Result<(), Fault>) -> Result<(), Fault>
+        ensures phase { self.new ≡ passed answer self.old }
+        ensures answer { result ≡ answer }
+    {
+        answer?;
+        *self = self.done();
+        Ok(())
+    }
+
+    /// The disk's own failure in a call of `sector`: it takes the power away, and `lost` is lost.
+    pub fn fail(&mut self, sector: u32, lost: L) -> Result<(), Fault>
+        ensures { Fails sector lost result self.new }
+    {
+        *self = Phase::Off(lost);
+        Err(Fault::PowerOff(sector))
     }
 }
