@@ -20,11 +20,12 @@ pub struct Marking<D: Disk> {
 }
 
 impl<D: Disk> Marking<D> {
-    ghost use Rattle.std.specs.Prelude.{◌⊎◌};
+    ghost use Rattle.std.specs.Prelude.{◌⊎◌, ◌↔◌, IsTrue};
     ghost use Rattle.disk.specs.Rules.{Starts};
     ghost use Rattle.failing.specs.declared.phase.Phase.TheVariants.{Before, Off, On};
     ghost use Rattle.marking.specs.Phases.{seen};
     ghost use Rattle.marking.specs.Chosen.{Stores};
+    ghost use Rattle.marking.specs.Marks.{IsLost};
     ghost use Rattle.marking.specs.OfMarking.{below_of, manner_of, phase_of, marking_state, marking_layers, Refuses, StartAgain};
 
     /// The disk that loses its power after `calls` calls of start, read and write that were done, in a write by `manner`.
@@ -62,6 +63,13 @@ impl<D: Disk> Marking<D> {
         } else {
             reach(&mut self.below, sector)
         }
+    }
+
+    // Whether a sector is lost that the disk below has.
+    fn is_gone(&self, lost: Lost, sector: u32) -> bool
+        ensures { IsTrue result ↔ IsLost sector lost (D.state self.now.below) }
+    {
+        lost.has(sector) && sector < self.below.count()
     }
 
     // A start after the failure.
@@ -104,14 +112,9 @@ impl<D: Disk> Disk for Marking<D> {
         match self.phase {
             Phase::Before(0) => {
                 self.below.start()?;
-                self.phase = Phase::Off(Lost::NONE);
-                Err(Fault::PowerOff(0))
+                self.phase.fail(0, Lost::NONE)
             }
-            Phase::Before(_) => {
-                self.below.start()?;
-                self.phase = self.phase.done();
-                Ok(())
-            }
+            Phase::Before(_) => self.phase.passed(self.below.start()),
             Phase::Off(lost) | Phase::On(lost) => self.start_again(lost),
         }
     }
@@ -128,17 +131,12 @@ impl<D: Disk> Disk for Marking<D> {
         match self.phase {
             Phase::Before(0) => {
                 probe(&mut self.below, sector)?;
-                self.phase = Phase::Off(Lost::NONE);
-                Err(Fault::PowerOff(sector))
+                self.phase.fail(sector, Lost::NONE)
             }
-            Phase::Before(_) => {
-                self.below.read(sector, buffer)?;
-                self.phase = self.phase.done();
-                Ok(())
-            }
+            Phase::Before(_) => self.phase.passed(self.below.read(sector, buffer)),
             Phase::Off(_) => Err(Fault::PowerOff(sector)),
             Phase::On(lost) => {
-                if lost.has(sector) && sector < self.below.count() {
+                if self.is_gone(lost, sector) {
                     return Err(Fault::Unreadable(sector));
                 }
                 let answer = self.below.read(sector, buffer);
@@ -160,14 +158,9 @@ impl<D: Disk> Disk for Marking<D> {
         match self.phase {
             Phase::Before(0) => {
                 self.store(sector, bytes)?;
-                self.phase = Phase::Off(Lost::by(self.manner, sector));
-                Err(Fault::PowerOff(sector))
+                self.phase.fail(sector, Lost::by(self.manner, sector))
             }
-            Phase::Before(_) => {
-                self.below.write(sector, bytes)?;
-                self.phase = self.phase.done();
-                Ok(())
-            }
+            Phase::Before(_) => self.phase.passed(self.below.write(sector, bytes)),
             Phase::Off(_) => Err(Fault::PowerOff(sector)),
             Phase::On(lost) => {
                 let answer = self.below.write(sector, bytes);
