@@ -1,11 +1,10 @@
 // The name of a file.
-ghost use Rattle.std.specs.Prelude.{◌≡◌, ◌≤◌, ◌==◌, true, false, Some, None, Ok, Err};
+ghost use Rattle.std.specs.Prelude.{◌≡◌, true, false, Some, None, Ok, Err};
 ghost use Rattle.std.specs.Fmt.{padded};
-ghost use Rattle.std.specs.List.{position_or_len};
 ghost use Rattle.refusal.specs.declared.Refusal.TheVariants.{BadName};
 ghost use Rattle.names.specs.Names.{letter, letters, letters_then_zeros, GoodName, filled, is_name, HasText, text_of};
 
-use padding::padded;
+use padding::{padded, text_length};
 use refusal::Refusal;
 use std::{fmt, str};
 
@@ -67,14 +66,6 @@ fn is_name(bytes: &[u8; 20]) -> bool
     ensures { result ≡ is_name bytes.now }
 {
     is_letter(bytes[0]) && letters_then_zeros(bytes)
-}
-
-// How many bytes stand before the first zero.
-fn text_length(bytes: &[u8; 20]) -> usize
-    ensures value { result ≡ position_or_len (λ b. b == 0) bytes.now }
-    ensures within { result ≤ 20 }
-{
-    bytes.iter().take_while(|byte| **byte != 0).count()
 }
 
 // Whether a byte is a character of a name.

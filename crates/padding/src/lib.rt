@@ -1,7 +1,8 @@
-// Bytes with zeros behind them, up to a fixed length.
+// Bytes with zeros behind them, up to a fixed length, and where the zeros begin.
 #![tactic(auto)]
 
-ghost use Rattle.std.specs.Prelude.{◌≡◌, ◌-◌, ◌≤◌, ◌++◌, length, replicate};
+ghost use Rattle.std.specs.Prelude.{◌≡◌, ◌-◌, ◌≤◌, ◌++◌, ◌==◌, length, replicate};
+ghost use Rattle.std.specs.List.{position_or_len};
 
 /// These bytes, and zeros behind them up to N.
 pub fn padded<const N: usize>(bytes: &[u8]) -> [u8; N]
@@ -11,4 +12,12 @@ pub fn padded<const N: usize>(bytes: &[u8]) -> [u8; N]
     let mut whole = [0; N];
     whole[..bytes.len()].copy_from_slice(bytes);
     whole
+}
+
+/// How many bytes stand before the first zero.
+pub fn text_length(bytes: &[u8]) -> usize
+    ensures value { result ≡ position_or_len (λ b. b == 0) bytes.now }
+    ensures within { result ≤ length bytes.now }
+{
+    bytes.iter().take_while(|byte| **byte != 0).count()
 }

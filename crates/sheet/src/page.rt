@@ -19,5 +19,5 @@ pub fn page_of(text: &str) -> Result<[u8; 512], Refusal>
 pub fn text_length(page: &[u8; 512]) -> usize
     ensures { result ≡ text_length page.now }
 {
-    page.iter().take_while(|byte| **byte != 0).count()
+    padding::text_length(page)
 }
