@@ -10,7 +10,7 @@ pub(crate) fn are_zeros(bytes: &[u8]) -> bool
     bytes.iter().all(|byte| *byte == 0)
 }
 
-// Whether all bytes of a sector behind the first ones are zero.
+// Whether all bytes of a sector from `first` on are zero.
 #[tactic(auto, unfolding(crate::specs::Padded::all_zeros))]
 pub(crate) fn are_zeros_from(sector: &[u8; 512], first: usize) -> bool
     ensures { result ≡ all_zeros (drop first sector.now) }
