@@ -29,6 +29,7 @@ fn bytes_at<const N: usize>(buf: &[u8], at: usize) -> [u8; N]
 // A separator and a key are bytes here. A `Key` is too little: a page may hold bytes that are no key, and the check of a register has to read them. A `Bound` is no plainer: each clause would name its bytes a field deeper, and of all that a `Bound` has only its order is used, which arrays have.
 
 /// An item of the root: the keys from its separator on, up to that of the next item, belong to its page.
+// The page is named by its number, which is its form on the disk.
 #[derive(Clone, Copy, Debug, Default, PartialEq, Eq)]
 pub struct Item {
     pub separator: [u8; 22],

@@ -22,6 +22,7 @@ use pages::records::{Entry, LEAF, MOST_ENTRIES};
 use refusal::Refusal;
 
 /// Pages that are lent for changes and hold a register.
+// `pages` is public for the reason that stands at `Lookup`.
 #[derive(Drop)]
 pub struct Register<'a, P: Paged> {
     pub pages: &'a mut [P],
@@ -68,6 +69,7 @@ impl<'a, P: Paged> Register<'a, P> {
     }
 
     /// Writes the pages of a fresh volume: a register with no entries.
+    // The number of pages, 2 to 21, is asked by each call that takes any pages: a type for so many pages would only move the question to whoever makes a value of it.
     pub fn format(pages: &'a mut [P]) -> Register<'a, P>
         requires least { 2 ≤ length pages.old }
         requires most { length pages.old ≤ 21 }
@@ -89,6 +91,7 @@ impl<'a, P: Paged> Register<'a, P> {
     }
 
     /// Puts in an entry whose key is not there, or refuses with 5 if its leaf is full and no leaf may be added; then nothing changes.
+    // Key, start and length come apart: the bytes in an `Entry` need be no key, and callers have the three apart too, as in `Change::Put`.
     pub fn put_in(&mut self, key: &Key, start: u32, len: u32) -> Result<(), Refusal>
         requires { look_up key_of before key.now.bytes (entries_of (map P.image self.old.pages.now)) ≡ None }
         ensures done { PutsIn P.image P.written (entry key.now.bytes start len) self.old.pages.now result self.new.pages.now }

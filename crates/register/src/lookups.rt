@@ -20,6 +20,7 @@ use pages::records::{Entry, Item, MOST_ENTRIES, MOST_ITEMS};
 use rows::row::Row;
 
 /// Pages that are lent and hold a register.
+// `pages` is public, since clauses and callers name it: who writes it has to show `kept` again, so no caller can break that fact.
 #[derive(Drop)]
 pub struct Lookup<'a, P: Paged> {
     pub pages: &'a [P],
