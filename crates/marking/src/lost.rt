@@ -8,7 +8,7 @@ use failing::manner::Manner;
 use failing::phase::Phase;
 
 /// A mark for the sector that was written, and one for its neighbour.
-// No array of marks: there are two at most, each has a name in the clauses, and `has` and `after` would be no shorter.
+// No array of marks, by which `has` and `after` would be shorter: there are two at the most, and each has a name in the clauses, where the sector's own is hidden before its neighbour.
 #[derive(Clone, Copy, PartialEq, Eq, Debug)]
 pub struct Lost {
     own: Option<u32>,

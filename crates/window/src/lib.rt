@@ -42,6 +42,7 @@ impl<D: Disk> Window<D> {
     }
 
     // The sector to ask the disk below for. For a sector that is not in the window it is one that the disk below does not have, so that this answers 9 or 16 by itself.
+    // Not one function that asks the disk below by a closure, and retells the answer. It was tried: it wants four clauses, which are longer than what the three calls repeat, and then the clauses `rule` and `below` of `read` are not proved without answers of their own. `self.place(sector)` as an argument of the call below was tried too, and the check does not cover it.
     fn place(&self, sector: u32) -> u32
         ensures { Placed self.now.first self.now.length sector (D.Disk.state self.now.below) result }
     {
