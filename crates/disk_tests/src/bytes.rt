@@ -1,11 +1,14 @@
 // The bytes of images, before a test and after it.
 
-/// Makes each sector readable, and sector `s` hold `s + 1` in each byte.
-pub fn put_sectors(bytes: &mut [u8]) {
-    for (i, byte) in bytes.iter_mut().enumerate() {
-        let inner = (i / 513 % 255 + 1) as u8;
-        *byte = if i % 513 == 0 { 0 } else { inner };
+/// Sectors that can be read, each of which holds its number and 1 in each byte.
+pub fn sectors<const N: usize>() -> [u8; N] {
+    let mut bytes = [0; N];
+    for (number, sector) in bytes.chunks_mut(513).enumerate() {
+        if let Some((_, held)) = sector.split_first_mut() {
+            held.fill((number % 255 + 1) as u8);
+        }
     }
+    bytes
 }
 
 // The byte that a tail has at `i`.

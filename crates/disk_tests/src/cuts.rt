@@ -1,5 +1,5 @@
 // A power that fails in a chosen call, over three sectors that hold 1, 2 and 3.
-use crate::bytes::put_sectors;
+use crate::bytes::sectors;
 use crate::kinds::{image_of, on_failing, on_image, on_window};
 use crate::scripts::Answer::*;
 use crate::scripts::Call::*;
@@ -13,8 +13,7 @@ use window::Window;
 
 // Plays a script on the disk whose power fails after `calls` calls.
 fn failing(rt: &impl Abort, calls: u32, manner: Manner, script: &[(Call, Answer)]) {
-    let mut bytes = [0; 1539];
-    put_sectors(&mut bytes);
+    let mut bytes = sectors::<1539>();
     on_failing(rt, Image::new(&mut bytes), calls, manner, script, &[]);
 }
 
@@ -41,8 +40,7 @@ const ALL: [Row; 15] = [
 
 // Checks what a write of 9 leaves.
 fn check_row(rt: &impl Abort, (manner, sector, left_0, left_1, left_2): Row) {
-    let mut bytes = [0; 1539];
-    put_sectors(&mut bytes);
+    let mut bytes = sectors::<1539>();
     play(
         rt,
         &(manner, sector),
@@ -156,8 +154,7 @@ fn refused_calls_do_not_count(rt: HostRuntime) {
 
 #[test]
 fn calls_with_power_off_do_not_count(rt: HostRuntime) {
-    let mut bytes = [0; 1539];
-    put_sectors(&mut bytes);
+    let mut bytes = sectors::<1539>();
     on_failing(
         &rt,
         image_of(&mut bytes, false),
@@ -184,8 +181,7 @@ const CUT: [(Call, Answer); 3] = [
 
 #[test]
 fn below_a_window_it_reaches_past_the_window(rt: HostRuntime) {
-    let mut bytes = [0; 1539];
-    put_sectors(&mut bytes);
+    let mut bytes = sectors::<1539>();
     on_window(
         &rt,
         Failing::new(Image::new(&mut bytes), 0, Manner::OwnAndBelow),
@@ -197,8 +193,7 @@ fn below_a_window_it_reaches_past_the_window(rt: HostRuntime) {
 
 #[test]
 fn above_a_window_it_stays_in_the_window(rt: HostRuntime) {
-    let mut bytes = [0; 1539];
-    put_sectors(&mut bytes);
+    let mut bytes = sectors::<1539>();
     on_failing(
         &rt,
         Window::new(Image::new(&mut bytes), 1, 1),

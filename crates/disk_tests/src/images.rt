@@ -1,5 +1,5 @@
 // The bytes of an image: a mark and 512 bytes for each sector, and a tail.
-use crate::bytes::{count_tail, put_sectors, put_tail};
+use crate::bytes::{count_tail, put_tail, sectors};
 use crate::kinds::{on_failing, on_image};
 use crate::scripts::Answer::*;
 use crate::scripts::Call::*;
@@ -31,8 +31,7 @@ fn a_write_clears_the_mark_and_stores_the_bytes(rt: HostRuntime) -> Result<(), F
 
 #[test]
 fn any_mark_but_0_is_unreadable(rt: HostRuntime) {
-    let mut bytes = [0; 1539];
-    put_sectors(&mut bytes);
+    let mut bytes = sectors::<1539>();
     bytes[0] = 2;
     bytes[513] = 255;
     on_image(

@@ -1,5 +1,5 @@
 // A power that fails in a chosen write over a disk that cannot be spoiled: five sectors that hold 1, 2, 3, 4 and 5.
-use crate::bytes::put_sectors;
+use crate::bytes::sectors;
 use crate::plain::Plain;
 use crate::scripts::Answer::*;
 use crate::scripts::Call::*;
@@ -21,8 +21,7 @@ fn five(
     script: &[(Call, Answer)],
     below: &[(Call, Answer)],
 ) {
-    let mut bytes = [0; 2565];
-    put_sectors(&mut bytes);
+    let mut bytes = sectors::<2565>();
     let plain = Plain {
         below: Image::new(&mut bytes),
     };
@@ -219,8 +218,7 @@ fn a_run_over_lost_sectors(rt: HostRuntime) {
 
 // Plays a script on a disk whose power fails in the first call by `manner`, over one whose power fails after two calls and leaves the new bytes.
 fn twice(rt: &impl Abort, manner: Manner, script: &[(Call, Answer)]) {
-    let mut bytes = [0; 2565];
-    put_sectors(&mut bytes);
+    let mut bytes = sectors::<2565>();
     let plain = Plain {
         below: Marking::new(Image::new(&mut bytes), 2, Manner::NewBytes),
     };
@@ -293,8 +291,7 @@ fn a_start_that_is_refused_below(rt: HostRuntime) {
 
 #[test]
 fn the_power_below_fails_in_the_chosen_call(rt: HostRuntime) {
-    let mut bytes = [0; 2565];
-    put_sectors(&mut bytes);
+    let mut bytes = sectors::<2565>();
     let plain = Plain {
         below: Marking::new(Image::new(&mut bytes), 0, Manner::Own),
     };
@@ -316,8 +313,7 @@ fn the_power_below_fails_in_the_chosen_call(rt: HostRuntime) {
 
 #[test]
 fn under_a_window(rt: HostRuntime) {
-    let mut bytes = [0; 2565];
-    put_sectors(&mut bytes);
+    let mut bytes = sectors::<2565>();
     let plain = Plain {
         below: Image::new(&mut bytes),
     };

@@ -1,5 +1,5 @@
 // A power that fails in a chosen call of a disk that marks what it lost, over three sectors that hold 1, 2 and 3.
-use crate::bytes::put_sectors;
+use crate::bytes::sectors;
 use crate::kinds::on_image;
 use crate::scripts::Answer::*;
 use crate::scripts::Call::*;
@@ -19,8 +19,7 @@ fn marking(
     script: &[(Call, Answer)],
     below: &[(Call, Answer)],
 ) {
-    let mut bytes = [0; 1539];
-    put_sectors(&mut bytes);
+    let mut bytes = sectors::<1539>();
     let mut disk = Marking::new(Image::new(&mut bytes), calls, manner);
     play(rt, &"marking", ask, &mut disk, script);
     play(rt, &"below", ask, &mut disk.into_below(), below);
@@ -28,8 +27,7 @@ fn marking(
 
 #[test]
 fn above_a_window_the_disk_below_is_as_before(rt: HostRuntime) {
-    let mut bytes = [0; 1539];
-    put_sectors(&mut bytes);
+    let mut bytes = sectors::<1539>();
     let mut disk = Marking::new(
         Window::new(Image::new(&mut bytes), 1, 1),
         0,

@@ -1,5 +1,5 @@
 // Refusals: their numbers, places and words, and which of them a disk call has. A script checks that a refused read leaves the caller's bytes.
-use crate::bytes::put_sectors;
+use crate::bytes::sectors;
 use crate::kinds::on_image;
 use crate::scripts::Answer::*;
 use crate::scripts::Call::*;
@@ -70,8 +70,7 @@ fn printed(rt: HostRuntime) -> Result<(), Fail> {
 
 // Plays a script on two sectors, of which the first holds 1 and the second is unreadable.
 fn two(rt: &impl Abort, power: bool, script: &[(Call, Answer)]) {
-    let mut bytes = [0; 1026];
-    put_sectors(&mut bytes);
+    let mut bytes = sectors::<1026>();
     bytes[513] = 1;
     on_image(rt, &mut bytes, power, script);
 }

@@ -1,5 +1,5 @@
 // Runs of blocks that hold 11, 12, 13 and 14, over three sectors that hold 1, 2 and 3.
-use crate::bytes::put_sectors;
+use crate::bytes::sectors;
 use crate::kinds::{on_failing, on_image};
 use crate::scripts::Answer::*;
 use crate::scripts::Call::*;
@@ -11,8 +11,7 @@ use std::process::Abort;
 
 // Plays a script on the three sectors, with power on or off.
 fn three(rt: &impl Abort, power: bool, script: &[(Call, Answer)]) {
-    let mut bytes = [0; 1539];
-    put_sectors(&mut bytes);
+    let mut bytes = sectors::<1539>();
     on_image(rt, &mut bytes, power, script);
 }
 
@@ -71,8 +70,7 @@ fn with_power_off(rt: HostRuntime) {
 
 #[test]
 fn cut_in_the_middle(rt: HostRuntime) {
-    let mut bytes = [0; 1539];
-    put_sectors(&mut bytes);
+    let mut bytes = sectors::<1539>();
     on_failing(
         &rt,
         Image::new(&mut bytes),

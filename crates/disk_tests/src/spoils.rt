@@ -1,5 +1,5 @@
 // Sectors made unreadable, among three that hold 1, 2 and 3.
-use crate::bytes::put_sectors;
+use crate::bytes::sectors;
 use crate::kinds::{image_of, on_image, on_lent, on_window};
 use crate::scripts::Answer::*;
 use crate::scripts::Call::*;
@@ -15,8 +15,7 @@ const SPOILED: [(Call, Answer); 3] = [
 
 #[test]
 fn until_it_is_written(rt: HostRuntime) {
-    let mut bytes = [0; 1539];
-    put_sectors(&mut bytes);
+    let mut bytes = sectors::<1539>();
     on_image(
         &rt,
         &mut bytes,
@@ -41,8 +40,7 @@ fn until_it_is_written(rt: HostRuntime) {
 
 #[test]
 fn with_power_off(rt: HostRuntime) {
-    let mut bytes = [0; 1539];
-    put_sectors(&mut bytes);
+    let mut bytes = sectors::<1539>();
     on_image(
         &rt,
         &mut bytes,
@@ -59,8 +57,7 @@ fn with_power_off(rt: HostRuntime) {
 
 #[test]
 fn through_a_window(rt: HostRuntime) {
-    let mut bytes = [0; 1539];
-    put_sectors(&mut bytes);
+    let mut bytes = sectors::<1539>();
     on_window(
         &rt,
         image_of(&mut bytes, false),
@@ -77,8 +74,7 @@ fn through_a_window(rt: HostRuntime) {
 
 #[test]
 fn through_a_lent_disk(rt: HostRuntime) {
-    let mut bytes = [0; 1539];
-    put_sectors(&mut bytes);
+    let mut bytes = sectors::<1539>();
     on_lent(
         &rt,
         &mut bytes,

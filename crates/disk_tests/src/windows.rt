@@ -1,5 +1,5 @@
 // Windows over four sectors that hold 1, 2, 3 and 4.
-use crate::bytes::put_sectors;
+use crate::bytes::sectors;
 use crate::kinds::{image_of, on_window};
 use crate::scripts::Answer::*;
 use crate::scripts::Call::*;
@@ -56,8 +56,7 @@ fn counts_what_lies_on_the_disk(rt: HostRuntime) {
 
 #[test]
 fn sector_i_is_first_and_i_below(rt: HostRuntime) {
-    let mut bytes = [0; 2052];
-    put_sectors(&mut bytes);
+    let mut bytes = sectors::<2052>();
     on_window(
         &rt,
         Image::new(&mut bytes),
@@ -81,8 +80,7 @@ fn sector_i_is_first_and_i_below(rt: HostRuntime) {
 
 #[test]
 fn with_power_off(rt: HostRuntime) {
-    let mut bytes = [0; 2052];
-    put_sectors(&mut bytes);
+    let mut bytes = sectors::<2052>();
     on_window(
         &rt,
         image_of(&mut bytes, false),
@@ -102,8 +100,7 @@ fn with_power_off(rt: HostRuntime) {
 
 #[test]
 fn over_a_window(rt: HostRuntime) {
-    let mut bytes = [0; 2052];
-    put_sectors(&mut bytes);
+    let mut bytes = sectors::<2052>();
     on_window(
         &rt,
         Window::new(Image::new(&mut bytes), 1, 2),
