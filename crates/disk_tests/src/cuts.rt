@@ -1,6 +1,6 @@
-// A power that fails in a chosen call, over three sectors that hold 1, 2 and 3.
+// A power that fails in a chosen call, of either disk that loses its power, over three sectors that hold 1, 2 and 3.
 use crate::bytes::sectors;
-use crate::kinds::{image_of, on_failing, on_image, on_window};
+use crate::kinds::{image_of, on_above, on_image};
 use crate::scripts::Answer::*;
 use crate::scripts::Call::*;
 use crate::scripts::{Answer, BAD_0, BAD_1, BAD_2, Call, ask, play};
@@ -8,13 +8,24 @@ use disk::faults::Fault::*;
 use failing::failing::Failing;
 use failing::manner::Manner;
 use image::Image;
+use marking::marking::Marking;
 use std::process::Abort;
 use window::Window;
 
-// Plays a script on the disk whose power fails after `calls` calls.
-fn failing(rt: &impl Abort, calls: u32, manner: Manner, script: &[(Call, Answer)]) {
+// Plays a script on each disk whose power fails after `calls` calls, and then one on the disk below, given back.
+fn both(
+    rt: &impl Abort,
+    calls: u32,
+    manner: Manner,
+    script: &[(Call, Answer)],
+    below: &[(Call, Answer)],
+) {
     let mut bytes = sectors::<1539>();
-    on_failing(rt, Image::new(&mut bytes), calls, manner, script, &[]);
+    let failing = Failing::new(Image::new(&mut bytes), calls, manner);
+    on_above(rt, failing, Failing::into_below, script, below);
+    let mut bytes = sectors::<1539>();
+    let marking = Marking::new(Image::new(&mut bytes), calls, manner);
+    on_above(rt, marking, Marking::into_below, script, below);
 }
 
 // A manner, the sector written, and what the three sectors are then.
@@ -69,7 +80,7 @@ fn each_manner_at_each_sector(rt: HostRuntime) {
 
 #[test]
 fn a_spoiled_sector_is_cut_as_any_other(rt: HostRuntime) {
-    failing(
+    both(
         &rt,
         0,
         Manner::AsBefore,
@@ -79,8 +90,9 @@ fn a_spoiled_sector_is_cut_as_any_other(rt: HostRuntime) {
             (Start, Done),
             (Read(1), BAD_1),
         ],
+        &[(Read(1), BAD_1)],
     );
-    failing(
+    both(
         &rt,
         0,
         Manner::NewBytes,
@@ -90,12 +102,13 @@ fn a_spoiled_sector_is_cut_as_any_other(rt: HostRuntime) {
             (Start, Done),
             (Read(1), Holds(9)),
         ],
+        &[(Read(1), Holds(9))],
     );
 }
 
 #[test]
 fn a_chosen_start(rt: HostRuntime) {
-    failing(
+    both(
         &rt,
         1,
         Manner::Own,
@@ -110,12 +123,13 @@ fn a_chosen_start(rt: HostRuntime) {
             (Read(1), Holds(9)),
             (Read(2), Holds(3)),
         ],
+        &[],
     );
 }
 
 #[test]
 fn a_chosen_read(rt: HostRuntime) {
-    failing(
+    both(
         &rt,
         2,
         Manner::Own,
@@ -129,12 +143,13 @@ fn a_chosen_read(rt: HostRuntime) {
             (Read(1), Holds(2)),
             (Read(2), Holds(3)),
         ],
+        &[],
     );
 }
 
 #[test]
 fn refused_calls_do_not_count(rt: HostRuntime) {
-    failing(
+    both(
         &rt,
         1,
         Manner::Own,
@@ -149,17 +164,17 @@ fn refused_calls_do_not_count(rt: HostRuntime) {
             (Read(1), BAD_1),
             (Read(0), Refused(PowerOff(0))),
         ],
+        &[],
     );
 }
 
 #[test]
 fn calls_with_power_off_do_not_count(rt: HostRuntime) {
     let mut bytes = sectors::<1539>();
-    on_failing(
+    on_above(
         &rt,
-        image_of(&mut bytes, false),
-        1,
-        Manner::NewBytes,
+        Failing::new(image_of(&mut bytes, false), 1, Manner::NewBytes),
+        Failing::into_below,
         &[
             (Read(0), Refused(PowerOff(0))),
             (Write(3, 9), Refused(PowerOff(3))),
@@ -172,8 +187,8 @@ fn calls_with_power_off_do_not_count(rt: HostRuntime) {
     );
 }
 
-// A cut at the first sector of a window.
-const CUT: [(Call, Answer); 3] = [
+/// A cut at the first sector of a window, and what is read there.
+pub const CUT: [(Call, Answer); 3] = [
     (Write(0, 9), Refused(PowerOff(0))),
     (Start, Done),
     (Read(0), BAD_0),
@@ -182,10 +197,14 @@ const CUT: [(Call, Answer); 3] = [
 #[test]
 fn below_a_window_it_reaches_past_the_window(rt: HostRuntime) {
     let mut bytes = sectors::<1539>();
-    on_window(
+    on_above(
         &rt,
-        Failing::new(Image::new(&mut bytes), 0, Manner::OwnAndBelow),
-        (1, 1),
+        Window::new(
+            Failing::new(Image::new(&mut bytes), 0, Manner::OwnAndBelow),
+            1,
+            1,
+        ),
+        Window::into_below,
         &CUT,
         &[(Read(0), BAD_0), (Read(1), BAD_1), (Read(2), Holds(3))],
     );
@@ -194,11 +213,14 @@ fn below_a_window_it_reaches_past_the_window(rt: HostRuntime) {
 #[test]
 fn above_a_window_it_stays_in_the_window(rt: HostRuntime) {
     let mut bytes = sectors::<1539>();
-    on_failing(
+    on_above(
         &rt,
-        Window::new(Image::new(&mut bytes), 1, 1),
-        0,
-        Manner::OwnAndBelow,
+        Failing::new(
+            Window::new(Image::new(&mut bytes), 1, 1),
+            0,
+            Manner::OwnAndBelow,
+        ),
+        Failing::into_below,
         &CUT,
         &[(Count, Sectors(1))],
     );

@@ -1,11 +1,12 @@
 // The bytes of an image: a mark and 512 bytes for each sector, and a tail.
 use crate::bytes::{count_tail, put_tail, sectors};
-use crate::kinds::{on_failing, on_image};
+use crate::kinds::{on_above, on_image};
 use crate::scripts::Answer::*;
 use crate::scripts::Call::*;
 use disk::disks::Disk;
 use disk::faults::Fault;
 use disk::faults::Fault::*;
+use failing::failing::Failing;
 use failing::manner::Manner;
 use image::Image;
 use std::test::Fail;
@@ -50,11 +51,10 @@ fn any_mark_but_0_is_unreadable(rt: HostRuntime) {
 fn no_call_touches_the_tail(rt: HostRuntime) {
     let mut bytes = [0; 1126];
     put_tail(&mut bytes, 1026);
-    on_failing(
+    on_above(
         &rt,
-        Image::new(&mut bytes),
-        2,
-        Manner::OwnAndAbove,
+        Failing::new(Image::new(&mut bytes), 2, Manner::OwnAndAbove),
+        Failing::into_below,
         &[
             (Write(1, 9), Done),
             (Read(1), Holds(9)),

@@ -1,11 +1,8 @@
 // Scripts played on each kind of disk.
 use crate::scripts::{Answer, Call, ask, play};
 use disk::disks::Spoilable;
-use failing::failing::Failing;
-use failing::manner::Manner;
 use image::Image;
 use std::process::Abort;
-use window::Window;
 
 /// The image over `bytes`, with its power on or off.
 pub fn image_of(bytes: &mut [u8], power: bool) -> Image<'_> {
@@ -32,31 +29,16 @@ pub fn on_lent(rt: &impl Abort, bytes: &mut [u8], script: &[(Call, Answer)]) {
     on_disk(rt, &mut image, script);
 }
 
-// Not one function for every disk above another: each gives the disk below back by a method of its own, and to pass that in would be no shorter.
-/// Plays a script on a window over a disk, and then one on the disk that the window gives back.
-pub fn on_window<D: Spoilable + Drop>(
+/// Plays a script on a disk above another, and then one on the disk below, which `into_below` gives back.
+pub fn on_above<T: Spoilable, D: Spoilable + Drop, F: FnOnce(T) -> D>(
     rt: &impl Abort,
-    disk: D,
-    (first, length): (u32, u32),
+    mut above: T,
+    into_below: F,
     script: &[(Call, Answer)],
     below: &[(Call, Answer)],
-) {
-    let mut window = Window::new(disk, first, length);
-    play(rt, &"window", ask, &mut window, script);
-    play(rt, &"below", ask, &mut window.into_below(), below);
-}
-
-// A number of calls and a manner are what `Failing::new` takes; a struct of the two would be taken apart again here. One of the two scripts would make each call longer.
-/// Plays a script on a disk whose power fails after `calls` calls, and then one on the disk below, given back.
-pub fn on_failing<D: Spoilable + Drop>(
-    rt: &impl Abort,
-    disk: D,
-    calls: u32,
-    manner: Manner,
-    script: &[(Call, Answer)],
-    below: &[(Call, Answer)],
-) {
-    let mut top = Failing::new(disk, calls, manner);
-    play(rt, &"failing", ask, &mut top, script);
-    play(rt, &"below", ask, &mut top.into_below(), below);
+)
+    requires { F.IsAlwaysCallable into_below }
+{
+    play(rt, &"above", ask, &mut above, script);
+    play(rt, &"below", ask, &mut into_below(above), below);
 }

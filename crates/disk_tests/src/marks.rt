@@ -1,9 +1,10 @@
 // A power that fails in a chosen call of a disk that marks what it lost, over three sectors that hold 1, 2 and 3.
 use crate::bytes::sectors;
-use crate::kinds::on_image;
+use crate::cuts::CUT;
+use crate::kinds::{on_above, on_image};
 use crate::scripts::Answer::*;
 use crate::scripts::Call::*;
-use crate::scripts::{Answer, BAD_0, BAD_1, Call, ask, play};
+use crate::scripts::{Answer, BAD_0, BAD_1, Call};
 use disk::faults::Fault::*;
 use failing::manner::Manner;
 use image::Image;
@@ -20,35 +21,22 @@ fn marking(
     below: &[(Call, Answer)],
 ) {
     let mut bytes = sectors::<1539>();
-    let mut disk = Marking::new(Image::new(&mut bytes), calls, manner);
-    play(rt, &"marking", ask, &mut disk, script);
-    play(rt, &"below", ask, &mut disk.into_below(), below);
+    let disk = Marking::new(Image::new(&mut bytes), calls, manner);
+    on_above(rt, disk, Marking::into_below, script, below);
 }
 
 #[test]
 fn above_a_window_the_disk_below_is_as_before(rt: HostRuntime) {
     let mut bytes = sectors::<1539>();
-    let mut disk = Marking::new(
-        Window::new(Image::new(&mut bytes), 1, 1),
-        0,
-        Manner::OwnAndBelow,
-    );
-    play(
+    on_above(
         &rt,
-        &"marking",
-        ask,
-        &mut disk,
-        &[
-            (Write(0, 9), Refused(PowerOff(0))),
-            (Start, Done),
-            (Read(0), BAD_0),
-        ],
-    );
-    play(
-        &rt,
-        &"below",
-        ask,
-        &mut disk.into_below(),
+        Marking::new(
+            Window::new(Image::new(&mut bytes), 1, 1),
+            0,
+            Manner::OwnAndBelow,
+        ),
+        Marking::into_below,
+        &CUT,
         &[(Count, Sectors(1))],
     );
     on_image(
@@ -60,34 +48,6 @@ fn above_a_window_the_disk_below_is_as_before(rt: HostRuntime) {
             (Read(1), Holds(2)),
             (Read(2), Holds(3)),
         ],
-    );
-}
-
-#[test]
-fn a_spoiled_sector_is_cut_and_marked_as_any_other(rt: HostRuntime) {
-    marking(
-        &rt,
-        0,
-        Manner::AsBefore,
-        &[
-            (Spoil(1), Done),
-            (Write(1, 9), Refused(PowerOff(1))),
-            (Start, Done),
-            (Read(1), BAD_1),
-        ],
-        &[(Read(1), BAD_1)],
-    );
-    marking(
-        &rt,
-        0,
-        Manner::NewBytes,
-        &[
-            (Spoil(1), Done),
-            (Write(1, 9), Refused(PowerOff(1))),
-            (Start, Done),
-            (Read(1), Holds(9)),
-        ],
-        &[(Read(1), Holds(9))],
     );
 }
 
@@ -134,25 +94,6 @@ fn a_chosen_start_and_a_chosen_read_lose_no_sector(rt: HostRuntime) {
             (Read(0), Refused(PowerOff(0))),
             (Start, Done),
             (Read(1), Holds(9)),
-        ],
-        &[],
-    );
-}
-
-#[test]
-fn refused_calls_do_not_count_with_marks(rt: HostRuntime) {
-    marking(
-        &rt,
-        1,
-        Manner::Own,
-        &[
-            (Read(3), Refused(NoSuchSector)),
-            (Write(3, 9), Refused(NoSuchSector)),
-            (Spoil(1), Done),
-            (Read(1), BAD_1),
-            (Read(0), Holds(1)),
-            (Read(1), BAD_1),
-            (Read(0), Refused(PowerOff(0))),
         ],
         &[],
     );

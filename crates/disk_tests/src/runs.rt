@@ -1,10 +1,11 @@
 // Runs of blocks that hold 11, 12, 13 and 14, over three sectors that hold 1, 2 and 3.
 use crate::bytes::sectors;
-use crate::kinds::{on_failing, on_image};
+use crate::kinds::{on_above, on_image};
 use crate::scripts::Answer::*;
 use crate::scripts::Call::*;
 use crate::scripts::{Answer, Call};
 use disk::faults::Fault::*;
+use failing::failing::Failing;
 use failing::manner::Manner;
 use image::Image;
 use std::process::Abort;
@@ -71,11 +72,10 @@ fn with_power_off(rt: HostRuntime) {
 #[test]
 fn cut_in_the_middle(rt: HostRuntime) {
     let mut bytes = sectors::<1539>();
-    on_failing(
+    on_above(
         &rt,
-        Image::new(&mut bytes),
-        1,
-        Manner::Own,
+        Failing::new(Image::new(&mut bytes), 1, Manner::Own),
+        Failing::into_below,
         &[
             (WriteRun(0, 3), Refused(PowerOff(1))),
             (Start, Done),

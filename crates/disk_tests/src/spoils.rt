@@ -1,10 +1,11 @@
 // Sectors made unreadable, among three that hold 1, 2 and 3.
 use crate::bytes::sectors;
-use crate::kinds::{image_of, on_image, on_lent, on_window};
+use crate::kinds::{image_of, on_above, on_image, on_lent};
 use crate::scripts::Answer::*;
 use crate::scripts::Call::*;
 use crate::scripts::{Answer, Call};
 use disk::faults::Fault::*;
+use window::Window;
 
 // What is read where sector 1 was spoiled.
 const SPOILED: [(Call, Answer); 3] = [
@@ -58,10 +59,10 @@ fn with_power_off(rt: HostRuntime) {
 #[test]
 fn through_a_window(rt: HostRuntime) {
     let mut bytes = sectors::<1539>();
-    on_window(
+    on_above(
         &rt,
-        image_of(&mut bytes, false),
-        (1, 1),
+        Window::new(image_of(&mut bytes, false), 1, 1),
+        Window::into_below,
         &[
             (Spoil(0), Done),
             (Spoil(1), Refused(NoSuchSector)),

@@ -1,6 +1,6 @@
 // Windows over four sectors that hold 1, 2, 3 and 4.
 use crate::bytes::sectors;
-use crate::kinds::{image_of, on_window};
+use crate::kinds::{image_of, on_above};
 use crate::scripts::Answer::*;
 use crate::scripts::Call::*;
 use crate::scripts::{ask, play};
@@ -57,10 +57,10 @@ fn counts_what_lies_on_the_disk(rt: HostRuntime) {
 #[test]
 fn sector_i_is_first_and_i_below(rt: HostRuntime) {
     let mut bytes = sectors::<2052>();
-    on_window(
+    on_above(
         &rt,
-        Image::new(&mut bytes),
-        (1, 2),
+        Window::new(Image::new(&mut bytes), 1, 2),
+        Window::into_below,
         &[
             (Read(0), Holds(2)),
             (Read(1), Holds(3)),
@@ -81,10 +81,10 @@ fn sector_i_is_first_and_i_below(rt: HostRuntime) {
 #[test]
 fn with_power_off(rt: HostRuntime) {
     let mut bytes = sectors::<2052>();
-    on_window(
+    on_above(
         &rt,
-        image_of(&mut bytes, false),
-        (1, 2),
+        Window::new(image_of(&mut bytes, false), 1, 2),
+        Window::into_below,
         &[
             (Read(0), Refused(PowerOff(0))),
             (Read(2), Refused(PowerOff(2))),
@@ -101,10 +101,10 @@ fn with_power_off(rt: HostRuntime) {
 #[test]
 fn over_a_window(rt: HostRuntime) {
     let mut bytes = sectors::<2052>();
-    on_window(
+    on_above(
         &rt,
-        Window::new(Image::new(&mut bytes), 1, 2),
-        (1, 5),
+        Window::new(Window::new(Image::new(&mut bytes), 1, 2), 1, 5),
+        Window::into_below,
         &[
             (Count, Sectors(1)),
             (Read(0), Holds(3)),
