@@ -1,10 +1,11 @@
 // The register of the small volume: some files are put in, one is taken out again, and what is left is listed.
 use crate::lines::FileLine;
 use crate::listing::{IMAGES, PLACES};
-use anyhow::{Context, ensure};
+use anyhow::{Context, bail, ensure};
 use geometry::geometry::Geometry;
 use names::key::Key;
 use pages::paged::Paged;
+use pages::records::Entry;
 use register::lookups::Lookup;
 use register::replay::{Change, replay};
 use register_check::check::check;
@@ -40,10 +41,10 @@ fn changes() -> anyhow::Result<[Change; 6]> {
 }
 
 // Prints a line for each file of a register, in the order of keys, and says how many there are.
-fn list_files<P: Paged>(rt: &HostRuntime, register: &Lookup<'_, P>) -> anyhow::Result<u32> {
+fn list_files<P: Paged>(rt: &HostRuntime, register: &Lookup<'_, P>) -> anyhow::Result<usize> {
     println!(rt; "name                  version   start  length  page")?;
-    let mut files = 0u32;
-    for entry in register.entries() {
+    let entries: Vec<Entry> = register.entries().collect(rt.alloc())?;
+    for entry in &entries {
         let key = Key::from_bytes(&entry.key).context("a key of the register is bad")?;
         let line = FileLine {
             key,
@@ -52,9 +53,8 @@ fn list_files<P: Paged>(rt: &HostRuntime, register: &Lookup<'_, P>) -> anyhow::R
             page: register.page_of(&key),
         };
         println!(rt; "{line}")?;
-        files = files.saturating_add(1);
     }
-    Ok(files)
+    Ok(entries.len())
 }
 
 /// Fills the register of a small volume, lists its files and checks its rules.
@@ -71,7 +71,10 @@ pub fn show_register(rt: &HostRuntime, geometry: &Geometry) -> anyhow::Result<()
         first: geometry.data_start(),
         sectors: geometry.sectors,
     };
-    check(&pages, area).context("a page of the register breaks a rule")?;
+    if let Err(refusal) = check(&pages, area) {
+        let page = refusal.place().context("a rule of the register is broken")?;
+        bail!("page {page} of the register breaks a rule");
+    }
     println!(rt; "the rules of the register are kept, and no two files meet")?;
     Ok(())
 }

@@ -78,6 +78,7 @@ impl fmt::Display for Fields {
                 let key = Key::from_bytes(&leader.key).ok_or(fmt::Error)?;
                 let name = key.name();
                 let version = key.version().number;
+                // The width by hand: a key is printed piece by piece, so its `Display` takes none.
                 let width = 19usize.saturating_sub(name.text().len());
                 write!(
                     f,

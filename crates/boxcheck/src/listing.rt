@@ -11,6 +11,7 @@ use layout::leader::Leader;
 use names::key::Key;
 use names::name::Name;
 use names::version::Version;
+use pages::records::MOST_ENTRIES;
 use refusal::Refusal;
 
 pub const PAGES: u8 = 4;
@@ -22,8 +23,8 @@ pub const SECTORS: u32 = 120;
 /// How many page images the volume has.
 pub const IMAGES: usize = PAGES as usize;
 
-/// How many files there are places for on the leaves: 15 on each page but that of the root.
-pub const PLACES: u32 = 15 * (PAGES as u32 - 1);
+/// How many files there are places for on the leaves: as many on each page but that of the root as it has room for.
+pub const PLACES: usize = MOST_ENTRIES * (IMAGES - 1);
 
 // Writes what carries a value to each of these sectors.
 fn write_to<D: Disk, C: Carried>(disk: &mut D, value: &C, sectors: &[u32]) -> Result<(), Fault> {

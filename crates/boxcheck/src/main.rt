@@ -43,6 +43,7 @@ fn show(rt: &HostRuntime, sheets: &Sheets, failure: Failure) -> anyhow::Result<C
             Ok(trial.came)
         }
         Err(refused @ Stopped::Refused(_)) => {
+            // It read back neither sheet, so it counts as something else.
             println!(rt; "{refused}")?;
             Ok(Came::Other)
         }

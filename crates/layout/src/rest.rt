@@ -11,6 +11,7 @@ pub(crate) fn are_zeros(bytes: &[u8]) -> bool
 }
 
 // Whether all bytes of a sector from `first` on are zero.
+// Not `are_zeros` of the slice from there on: that was tried, and its proof did not close, since a slice is told of as the first 503 of those bytes, and not as all of them.
 #[tactic(auto, unfolding(crate::specs::Padded::all_zeros))]
 pub(crate) fn are_zeros_from(sector: &[u8; 512], first: usize) -> bool
     ensures { result ≡ all_zeros (drop first sector.now) }

@@ -33,6 +33,7 @@ impl Bound {
     }
 
     /// The bound at this name and version. The name may be empty, and the version any number. 2 for another bad name.
+    // An empty text is no none here: it is the least text that a caller may look from.
     pub fn new(name: &[u8], version: u16) -> Result<Bound, Refusal>
         ensures { elim result [ Ok b ↦ (1 ≤ length name.now → GoodName name.now) × (b.bytes ≡ filled name.now ++ two_bytes version) | Err x ↦ (x ≡ BadName) × (1 ≤ length name.now) × (GoodName name.now → ⊥) ] }
     {

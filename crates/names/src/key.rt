@@ -64,7 +64,7 @@ impl Key {
     }
 
     /// Whether this key comes before another.
-    // Beside the derived order, since its contract carries the law that keys are totally ordered, which callers use.
+    // Beside the derived order: its contract is the one that says that keys are totally ordered, and no other says it of a `Key`.
     pub fn before(&self, other: &Key) -> bool
         ensures value { result ≡ before self.now.bytes other.now.bytes }
         ensures order { Total before }

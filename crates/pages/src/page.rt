@@ -37,6 +37,7 @@ fn read_all<R: Stored + Copy>(page: &[u8; 512], out: &mut [R])
 
 /// Makes a page of records: N and a letter, their count, and from byte 32 on the records.
 // The letter is an argument, and no constant of the record's kind: such a constant would be asked of all that implement `Stored`, and no page of a kind could be told to stand under the letter of another.
+// That the records fit is asked here, by `formed` and by those who write a page: a type for records that fit would be made at each call, by the proof that is asked now.
 // Into the caller's bytes, as all that fills a sector or a page: a volume works in the memory that it has, and makes no copy of a page.
 pub fn write_page<R: Stored>(letter: u8, records: &[R], page: &mut [u8; 512])
     requires { Holds R.WIDE (length records.now) }
@@ -50,6 +51,7 @@ pub fn write_page<R: Stored>(letter: u8, records: &[R], page: &mut [u8; 512])
 }
 
 /// Reads the records of a page, at most so many, and says how many there are.
+// A count, and the records in the caller's memory, as `decode_page` too: `read_row` and `decode_row` answer a row.
 pub fn read_page<R: Stored + Copy>(page: &[u8; 512], most: usize, out: &mut [R]) -> usize
     requires { Room R.WIDE most × (most ≤ length out.old) }
     ensures count { result ≡ min (slice_index page.now 2) most }

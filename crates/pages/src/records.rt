@@ -49,6 +49,7 @@ impl Keyed for Item {
 
     ghost key = { λ i. i.separator };
 
+    #[tactic(auto, using(rows::proofs::KeyOrder::bytes_total))]
     fn key(&self) -> [u8; 22] {
         self.separator
     }
@@ -59,6 +60,7 @@ impl Keyed for Entry {
 
     ghost key = { λ e. e.key };
 
+    #[tactic(auto, using(rows::proofs::KeyOrder::bytes_total))]
     fn key(&self) -> [u8; 22] {
         self.key
     }

@@ -28,7 +28,7 @@ pub fn fresh_page(page: usize) -> [u8; 512]
 }
 
 // Writes the pages of a fresh volume: a register with no entries.
-// What makes a register or checks one takes any pages, so each such call asks for their number itself.
+// The number of pages is asked here for the reason that stands at `Register::format`.
 pub(crate) fn write_fresh<P: Paged>(pages: &mut [P])
     requires least { 2 ≤ length pages.old }
     requires most { length pages.old ≤ 21 }

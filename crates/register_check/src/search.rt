@@ -46,6 +46,7 @@ impl<'a, P: Paged> Leaves<'a, P> {
         ensures { result ≡ answer_of (first_leaf area.first area.sectors (length self.now.items == 1) (map P.image self.now.pages.now) self.now.items) }
     {
         let items = self.items.as_slice();
+        // By places, since the leaf of each item is bounded by the item behind it: a rest that is split as in `pages_right` would be a variable beside the walk.
         for (i, item) in items.iter().enumerate() {
             let limits = Limits {
                 separator: item.separator,

@@ -1,7 +1,9 @@
 // What a record has to tell so that a row can hold it in order.
 ghost use Rattle.std.specs.Prelude.{◌≡◌};
+ghost use Rattle.names.specs.Orders.{Total};
+ghost use Rattle.rows.specs.Lists.{comes_before};
 
-/// A record that tells its key. Keys are in the order of their type.
+/// A record that tells its key. Keys are in the order of their type, by which two are one if neither comes first.
 pub trait Keyed {
     /// What a key is.
     type Key: Ord + Drop;
@@ -12,5 +14,6 @@ pub trait Keyed {
     /// The key.
     // A copy, and not lent: a record that keeps its key in other bytes can answer it too.
     fn key(&self) -> Self::Key
-        ensures { result ≡ key self.now };
+        ensures value { result ≡ key self.now }
+        ensures order { Total (comes_before Self.Key.cmp) };
 }

@@ -6,7 +6,7 @@ use crate::keyed::Keyed;
 use std::marker::Model;
 
 /// At most `N` records, whose users keep them in the order of their keys. `docs/CALLS.md` says what its calls do.
-// Not the library's `ArrayVec`: to take one out it asks that records have a `Default`, which no call here asks.
+// Not the library's `ArrayVec`: to take a record out it asks for a `Default` of the records, which was never asked of those who take one out of a row.
 #[derive(Drop)]
 pub struct Row<R, const N: usize> {
     records: [R; N],
