@@ -24,6 +24,7 @@ pub struct Failing<D> {
 
 impl<D: Spoilable> Failing<D> {
     /// The disk that loses its power after `calls` calls of start, read and write that were done, in a write by `manner`.
+    // The two come apart, here and at `Marking`: nearly all who make such a disk write both down where they do, and a struct of them would be one name more between.
     pub fn new(below: D, calls: u32, manner: Manner) -> Failing<D>
         ensures below { below_of result ≡ below }
         ensures left { left_of result ≡ Some calls }

@@ -1,11 +1,12 @@
 // Which sectors are right as headers, anchors, heads and ends.
-use crate::kinds::{is_right, sector_of};
+use crate::kinds::is_right;
 use layout::anchor::Anchor;
 use layout::carried::Carried;
 use layout::end::RecordEnd;
 use layout::head::RecordHead;
 use layout::header::Header;
 use layout::leader::Leader;
+use padding::fitted;
 use std::process::Abort;
 
 // What a reader knows beforehand, the bytes that a sector begins with, all others being zero, and whether it is right.
@@ -14,7 +15,7 @@ type Row<K> = (K, &'static [u8], bool);
 fn check_rows<C: Carried + Drop>(rt: &impl Abort, rows: &[Row<C::Known>]) {
     for (known, fields, right) in rows {
         assert_eq!(rt;
-            is_right::<C>(&sector_of(fields), *known),
+            is_right::<C>(&fitted(fields), *known),
             *right,
             "{fields:?}"
         );
@@ -95,7 +96,7 @@ fn heads(rt: HostRuntime) {
 
 // How many kinds a sector is right as.
 fn kinds_of(fields: &[u8]) -> usize {
-    let sector = sector_of(fields);
+    let sector = fitted(fields);
     let kinds = [
         is_right::<Header>(&sector, 120),
         is_right::<Anchor>(&sector, ()),

@@ -1,5 +1,5 @@
 // Worked sectors: their bytes, the values that they decode to, and that each bit of the tag and of the bytes after the fields counts.
-use crate::kinds::{is_right, sector_of};
+use crate::kinds::is_right;
 use geometry::third::Third;
 use layout::anchor::Anchor;
 use layout::carried::Carried;
@@ -7,6 +7,7 @@ use layout::end::RecordEnd;
 use layout::head::RecordHead;
 use layout::header::Header;
 use layout::leader::Leader;
+use padding::fitted;
 use std::process::Abort;
 
 const BITS: [u8; 8] = [1, 2, 4, 8, 16, 32, 64, 128];
@@ -31,7 +32,7 @@ fn both_ways<C: Carried + PartialEq + Drop>(
 ) {
     let mut sector = [255; 512];
     value.encode(&mut sector);
-    assert!(rt; sector == sector_of(fields));
+    assert!(rt; sector == fitted(fields));
     assert!(rt; C::decode(&sector, known) == Some(value));
     for i in (0..4).chain(fields.len()..512) {
         turned::<C>(rt, known, &sector, i);

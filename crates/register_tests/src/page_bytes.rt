@@ -1,15 +1,10 @@
 // Page images by their bytes, and which of them a change writes.
 ghost use Rattle.std.specs.Prelude.{◌≤◌, length};
 
-use padding::padded;
+use padding::fitted;
 use register::replay::{Change, replay};
 use std::alloc::{AllocError, Global};
 use std::process::Abort;
-
-/// A page of these bytes and then zeros.
-pub fn page_with(bytes: &[u8]) -> [u8; 512] {
-    padded(&bytes[..bytes.len().min(512)])
-}
 
 /// Puts bytes on a page from a place on.
 // The tests of pages have the same function: one for both would be library code, which may not abort, and each caller would have to say what it does where the bytes do not fit.
@@ -21,12 +16,12 @@ pub fn put_bytes(rt: &impl Abort, page: &mut [u8; 512], at: usize, bytes: &[u8])
 
 /// A leaf without entries.
 pub fn empty_leaf() -> [u8; 512] {
-    page_with(b"NL")
+    fitted(b"NL")
 }
 
 /// A root with one item, that of a page.
 pub fn root_with(page: u8) -> [u8; 512] {
-    let mut root = page_with(b"NR\x01");
+    let mut root = fitted(b"NR\x01");
     root[55] = page;
     root
 }

@@ -2,7 +2,8 @@
 ghost use Rattle.std.specs.Prelude.{◌≤◌, length};
 
 use crate::changes::{ENOUGH, add, falling, nth, put, rising, take};
-use crate::page_bytes::{page_with, put_bytes, written};
+use crate::page_bytes::{put_bytes, written};
+use padding::fitted;
 use register::lookups::Lookup;
 use register::replay::{Change, replay};
 use register_check::check::check;
@@ -93,7 +94,7 @@ fn of_the_lowest_page(rt: HostRuntime) -> Result<(), Fail> {
         &Lookup::over(&pages),
         &[(1, 3), (24, 3), (25, 2), (32, 2), (33, 1)],
     )?;
-    let mut root = page_with(b"NR\x03");
+    let mut root = fitted(b"NR\x03");
     put_bytes(&rt, &mut root, 54, b"\0\x03R");
     put_bytes(&rt, &mut root, 77, b"\x19\0\x02R");
     put_bytes(&rt, &mut root, 101, b"\x21\0\x01");
