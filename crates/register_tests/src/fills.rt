@@ -13,12 +13,10 @@ use std::test::Fail;
 
 // 1, 999, 2, 998 and so on: each number lies between the two before it.
 fn inward(alloc: Global) -> Result<Vec<u16>, AllocError> {
-    let mut order = Vec::new(alloc);
-    for n in 1..400u16 {
-        order.push(n)?;
-        order.push(1000 - n)?;
-    }
-    Ok(order)
+    (1..400u16)
+        .zip((601..1000u16).rev())
+        .flat_map(|(low, high): (u16, u16)| [low, high])
+        .collect(alloc)
 }
 
 // Checks that the n-th entry is refused with 5, which leaves every page as it was.
@@ -79,23 +77,16 @@ fn by_order(rt: HostRuntime) -> Result<(), Fail> {
 #[test]
 fn below_a_full_leaf(rt: HostRuntime) -> Result<(), Fail> {
     let mut order = rising(rt.alloc(), 101, 123)?;
-    for n in 1..9 {
-        order.push(n)?;
-    }
+    order.extend(1..9)?;
     fit(&rt, &mut [[0; 512]; 3], order.as_slice(), 30)
 }
 
 // 167 keys that rise by tens leave 19 leaves of 8, the first of 10 to 80, and each of these takes 7 more above its first key. Then all 20 leaves have 15.
 #[test]
 fn on_every_leaf(rt: HostRuntime) -> Result<(), Fail> {
-    let mut order = Vec::new(rt.alloc());
-    for i in 1..168u16 {
-        order.push(10 * i)?;
-    }
+    let mut order: Vec<u16> = (10..1680u16).step_by(10).collect(rt.alloc())?;
     for leaf in 0..19u16 {
-        for i in 11..18u16 {
-            order.push(80 * leaf + i)?;
-        }
+        order.extend(80 * leaf + 11..80 * leaf + 18)?;
     }
     let mut pages = [[0; 512]; 21];
     for last in [1, 801, 1525, 1671, 9999] {

@@ -52,16 +52,15 @@ fn put(place: usize) -> Result<Change, Fail> {
 
 // All of them put in, every seventh first.
 fn changes(alloc: Global) -> Result<Vec<Change>, Fail> {
-    let mut changes = Vec::new(alloc);
-    for i in 0..20usize {
-        changes.push(put(i * 7 % 20)?)?;
-    }
-    Ok(changes)
+    (0..140usize)
+        .step_by(7)
+        .map(|i: usize| put(i % 20))
+        .try_collect(alloc)
 }
 
 // The place of the row that an entry is of, if there is one.
 fn place_of(entry: Option<Entry>) -> Option<u32> {
-    Some(entry?.length)
+    entry.map(|entry: Entry| entry.length)
 }
 
 // What a lookup of each key, and of what is above it, tells.
@@ -70,6 +69,7 @@ fn keys_tell(rt: &impl Abort, register: &Lookup<'_, [u8; 512]>) -> Result<(), Fa
     for (place, (text, version)) in (0..20u32).zip(IN_TURN) {
         let key = key(text, version)?;
         let bound = Bound { bytes: key.bytes };
+        // An `if`: `then_some` was tried, which makes the sum at every place, and that it fits was then not proved.
         let next = if place < 19 { Some(place + 1) } else { None };
         assert_eq!(rt; place_of(register.find(&key)), Some(place));
         assert_eq!(rt; place_of(register.above(&bound)), next);
