@@ -3,7 +3,7 @@ ghost use Rattle.std.specs.Prelude.{◌≤◌, length};
 
 use padding::fitted;
 use register::replay::{Change, replay};
-use std::alloc::{AllocError, Global};
+use std::alloc::AllocError;
 use std::process::Abort;
 
 /// Puts bytes on a page from a place on.
@@ -26,13 +26,20 @@ pub fn root_with(page: u8) -> [u8; 512] {
     root
 }
 
-/// The numbers of the pages, of five, that the last of some changes writes.
-pub fn written(alloc: Global, changes: &[Change]) -> Result<Vec<usize>, AllocError> {
+/// The numbers of the pages, of five, that the last of some changes writes, where all of them are carried out.
+pub fn written(
+    rt: &(impl Abort + AllocGlobal),
+    changes: &[Change],
+) -> Result<Vec<usize>, AllocError> {
     let mut before = [[0; 512]; 5];
     let mut after = [[0; 512]; 5];
-    replay(&mut before, &changes[0..changes.len().saturating_sub(1)]);
-    replay(&mut after, changes);
-    (0..5usize)
-        .filter(|page| before[*page] != after[*page])
-        .collect(alloc)
+    let earlier = &changes[..changes.len().saturating_sub(1)];
+    assert_eq!(rt; replay(&mut before, earlier), earlier.len());
+    assert_eq!(rt; replay(&mut after, changes), changes.len());
+    before
+        .iter()
+        .zip(&after)
+        .enumerate()
+        .filter_map(|(page, (old, new))| (old != new).then_some(page))
+        .collect(rt.alloc())
 }

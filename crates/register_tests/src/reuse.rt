@@ -52,11 +52,11 @@ fn by_order(rt: HostRuntime) -> Result<(), Fail> {
     let mut pages = [[0; 512]; 21];
     let mut changes = Vec::new(rt.alloc());
     add(&mut changes, rising(rt.alloc(), 1, 167)?.as_slice(), put)?;
-    replay(&mut pages, changes.as_slice());
+    assert_eq!(rt; replay(&mut pages, changes.as_slice()), 167);
     belong(&rt, &Lookup::over(&pages), &OF_RISING)?;
     changes.clear();
     add(&mut changes, falling(rt.alloc(), 200, 34)?.as_slice(), put)?;
-    replay(&mut pages, changes.as_slice());
+    assert_eq!(rt; replay(&mut pages, changes.as_slice()), 167);
     belong(&rt, &Lookup::over(&pages), &OF_FALLING)
 }
 
@@ -73,14 +73,14 @@ fn of_the_lowest_page(rt: HostRuntime) -> Result<(), Fail> {
     let mut pages = [[0; 512]; 5];
     let mut changes = Vec::new(rt.alloc());
     without_page_2(&mut changes)?;
-    replay(&mut pages, changes.as_slice());
+    assert_eq!(rt; replay(&mut pages, changes.as_slice()), 32);
     belong(
         &rt,
         &Lookup::over(&pages),
         &[(1, 1), (9, 1), (16, 1), (17, 3), (24, 3)],
     )?;
     add(&mut changes, rising(rt.alloc(), 25, 32)?.as_slice(), put)?;
-    replay(&mut pages, changes.as_slice());
+    assert_eq!(rt; replay(&mut pages, changes.as_slice()), 40);
     belong(
         &rt,
         &Lookup::over(&pages),
@@ -88,7 +88,7 @@ fn of_the_lowest_page(rt: HostRuntime) -> Result<(), Fail> {
     )?;
     add(&mut changes, falling(rt.alloc(), 8, 1)?.as_slice(), take)?;
     add(&mut changes, rising(rt.alloc(), 33, 40)?.as_slice(), put)?;
-    replay(&mut pages, changes.as_slice());
+    assert_eq!(rt; replay(&mut pages, changes.as_slice()), 56);
     belong(
         &rt,
         &Lookup::over(&pages),
@@ -110,7 +110,7 @@ fn writes(
     wanted: &[usize],
 ) -> Result<(), Fail> {
     changes.push(next)?;
-    let found = written(rt.alloc(), changes.as_slice())?;
+    let found = written(rt, changes.as_slice())?;
     assert!(rt; found.as_slice() == wanted, "{}", changes.len());
     Ok(())
 }
