@@ -40,6 +40,7 @@ pub const AREA: Area = Area {
 pub type Row = (&'static [Edit], Option<u32>);
 
 /// Checks rows on a disk of so many sectors.
+// The tests of the leaves and of the root are alike but for their tables, which are all that they say: a function for both would take the two tables and call this one twice.
 pub fn blamed(rt: &(impl Abort + AllocGlobal), sectors: u32, rows: &[Row]) -> Result<(), Fail> {
     let good = good(rt)?;
     let area = Area {
