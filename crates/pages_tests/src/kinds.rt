@@ -4,6 +4,7 @@ use pages::records::{Entry, Item, LEAF, MOST_ENTRIES, MOST_ITEMS, ROOT};
 use std::process::Abort;
 
 /// How many items a page is the root of, if it is one.
+// Beside `entries_on`, and no one function for both: it would be as long, and each caller would have to name the letter, the record and the most of them.
 pub fn items_on(page: &[u8; 512]) -> Option<usize> {
     decode_page(ROOT, page, &mut [Item::default(); MOST_ITEMS])
 }
