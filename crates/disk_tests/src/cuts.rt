@@ -1,4 +1,4 @@
-// A power that fails in a chosen call, of either disk that loses its power, over three sectors that hold 1, 2 and 3.
+// A power that fails in a chosen call, over three sectors that hold 1, 2 and 3: of `Failing`, and where the answers are the same, of `Marking` too.
 use crate::bytes::sectors;
 use crate::kinds::{image_of, on_above, on_image};
 use crate::scripts::Answer::*;

@@ -1,4 +1,4 @@
-// A power that fails in a chosen call of a disk that marks what it lost, over three sectors that hold 1, 2 and 3.
+// What a disk that marks what it lost answers by itself, where its power fails in a chosen call, over three sectors that hold 1, 2 and 3. What it answers as `Failing` does is in `cuts`.
 use crate::bytes::sectors;
 use crate::cuts::CUT;
 use crate::kinds::{on_above, on_image};
