@@ -47,12 +47,12 @@ module _ (first second : ℕ) where
   only-power : (d e : DiskState) (s : ℕ) (sheet : List ℕ) (x : Fault) → Standing first second d s sheet → FetchRefused first second d x e → (number_of (refusal_of x) ≡ 9) × (e.sectors ≡ d.sectors)
   only-power d e s sheet (PowerOff p) h (off-at-first is off) = (refl, read-off first d e off)
   only-power d e s sheet (PowerOff p) h (off-at-second is on lost off) = (refl, read-off second d e off)
-  only-power d e s sheet (Unreadable p) (on-first is at) r = let a = at.is in let b = r.2.is in let z : ◌≡◌ {A = ℕ} 0 1 = cc in absurd (omega arith)
-  only-power d e s sheet (Unreadable p) (on-second is lost at) r = let a = at.is in let b = r.3.is in let z : ◌≡◌ {A = ℕ} 0 1 = cc in absurd (omega arith)
+  only-power d e s sheet (Unreadable p) (on-first is at) r = let a = at.is in let b = r.2.is in cc
+  only-power d e s sheet (Unreadable p) (on-second is lost at) r = let a = at.is in let b = r.3.is in cc
   only-power d e s sheet NoSuchSector (on-first is at) r =
       ⊎_elim
       (λ (past : count d ≤ first). absurd (omega (arith, at.exists)))
-      (λ both. let a = at.is in let b = both.0.is in let z : ◌≡◌ {A = ℕ} 0 1 = cc in absurd (omega arith))
+      (λ both. let a = at.is in let b = both.0.is in cc)
       r.1
   only-power d e s sheet NoSuchSector (on-second is lost at) r =
       ⊎_elim (λ (past : count d ≤ first). absurd (omega (arith, lost.exists))) (λ both. absurd (omega (arith, at.exists, both.1))) r.1

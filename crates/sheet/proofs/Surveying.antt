@@ -46,7 +46,7 @@ module _ (first : ℕ) (d : DiskState) where
     dark-first : d.power ≡ false → first + i ≡ first
     dark-first off =
         ⊎_elim
-        (λ (lt : 0 < i). let on = seen.on lt in let z : ◌≡◌ {A = ℕ} 0 1 = cc in absurd (omega arith))
+        (λ (lt : 0 < i). let on = seen.on lt in cc)
         (λ (ge : i ≤ 0). omega arith)
         (cases_lt 0 i)
 

@@ -28,7 +28,7 @@ module _ (first second : ℕ) (new : List ℕ) where
     long = ap length wrote.3 ∙ length-set d.sectors first (holds new)
 
     second-off : (e : DiskState) (p : ℕ) → p ≡ second → WriteOff second new m e → (e.power ≡ false) × CutIn first second new d p e.sectors
-    second-off e p is (write-was-off was same) = let on = wrote.2 in let z : ◌≡◌ {A = ℕ} 0 1 = cc in absurd (omega arith)
+    second-off e p is (write-was-off was same) = let on = wrote.2 in cc
     second-off e p is (write-failed on exists off cut) =
         let within : second < count d = omega (arith, long) in
         (off, in-second is wrote.0 wrote.1 within (subst (λ (l : List Sector). Cut second new l e.sectors) wrote.3 cut))
