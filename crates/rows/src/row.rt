@@ -1,5 +1,5 @@
 // A row of records, and the same calls on records that are lent.
-ghost use Rattle.std.specs.Prelude.{◌≡◌, ◌+◌, ◌-◌, ◌<◌, ◌≤◌, List, map, length, take, slice_set};
+ghost use Rattle.std.specs.Prelude.{◌≡◌, ◌-◌, ◌<◌, ◌≤◌, List, map, length, take, slice_set};
 ghost use Rattle.rows.specs.Lists.{comes_before, up_to, put_at, without};
 
 use crate::keyed::Keyed;
@@ -55,7 +55,7 @@ impl<R: Copy, const N: usize> Row<R, N> {
         requires inside { at ≤ length self.old }
         ensures { self.new ≡ put_at self.old at new }
     {
-        put_into(&mut self.records, self.count, at, new);
+        put_into(&mut self.records[..self.count + 1], at, new);
         self.count += 1;
     }
 
@@ -64,7 +64,7 @@ impl<R: Copy, const N: usize> Row<R, N> {
         requires { at < length self.old }
         ensures { self.new ≡ without self.old at }
     {
-        take_from(&mut self.records, self.count, at);
+        take_from(&mut self.records[..self.count], at);
         self.count -= 1;
     }
 
@@ -84,40 +84,37 @@ impl<R: Keyed, const N: usize> Row<R, N> {
         ensures bound { result ≤ length self.now }
         ensures value { result ≡ up_to (comes_before R.Key.cmp) wanted.now (map R.key self.now) }
     {
-        place_in(&self.records, self.count, wanted)
+        place_in(&self.records[..self.count], wanted)
     }
 }
 
-// The next three take records and their count apart, so that a caller that has both keeps them in a memory of its own: a `Row` would be a copy of the records, and the memory of a volume is fixed.
+// The next three are over records that are lent: a `Row` would be a copy of them, and the memory of a volume is fixed.
 
-/// How many of the first `count` records have a key that is not above `wanted`, from the first on.
-pub fn place_in<R: Keyed>(records: &[R], count: usize, wanted: &R::Key) -> usize
-    requires { count ≤ length records.now }
-    ensures bound { result ≤ count }
-    ensures value { result ≡ up_to (comes_before R.Key.cmp) wanted.now (map R.key (take count records.now)) }
+/// How many of the records have a key that is not above `wanted`, from the first on.
+pub fn place_in<R: Keyed>(records: &[R], wanted: &R::Key) -> usize
+    ensures bound { result ≤ length records.now }
+    ensures value { result ≡ up_to (comes_before R.Key.cmp) wanted.now (map R.key records.now) }
 {
     // From the front: `partition_point` and `binary_search_by` answer this only where keys rise, which nothing asks of these records.
-    records[..count]
+    records
         .iter()
         .position(|r| *wanted < r.key())
-        .unwrap_or(count)
+        .unwrap_or(records.len())
 }
 
-/// Puts a record in at a place among the first `count`; those from there on move up by one.
-pub fn put_into<R: Copy>(records: &mut [R], count: usize, at: usize, new: R)
-    requires room { count < length records.old }
-    requires inside { at ≤ count }
-    ensures { take (count + 1) records.new ≡ put_at (take count records.old) at new }
+/// Puts a record in at a place among the records and one place more behind them; those from there on move up by one, over that place.
+pub fn put_into<R: Copy>(records: &mut [R], at: usize, new: R)
+    requires { at < length records.old }
+    ensures { records.new ≡ put_at (take (length records.old - 1) records.old) at new }
 {
-    records[at..count + 1].rotate_right(1);
+    records[at..].rotate_right(1);
     records[at] = new;
 }
 
-/// Takes the record at a place among the first `count` out; those behind it move down by one.
-pub fn take_from<R: Copy>(records: &mut [R], count: usize, at: usize)
-    requires within { count ≤ length records.old }
-    requires inside { at < count }
-    ensures { take (count - 1) records.new ≡ without (take count records.old) at }
+/// Takes the record at a place out; those behind it move down by one, and what the last place holds then is not said.
+pub fn take_from<R: Copy>(records: &mut [R], at: usize)
+    requires { at < length records.old }
+    ensures { take (length records.old - 1) records.new ≡ without records.old at }
 {
-    records[at..count].rotate_left(1);
+    records[at..].rotate_left(1);
 }
