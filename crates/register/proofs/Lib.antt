@@ -4,6 +4,7 @@ pub mod Places
 pub mod Written
 pub mod Trees
 pub mod Homes
+pub mod AtHome
 pub mod Holding
 pub mod Separators
 pub mod Full

@@ -19,8 +19,9 @@ use Rattle.pages.specs.Writes.{PageWrite, imaged}
 use Rattle.pages.specs.declared.records.Entry.{Entry}
 use Rattle.register.specs.Images.{zero_key, key_of, no_entry, entries_of, leaf_page, root_page, write, most_items, is_full, put_writes}
 use Rattle.register.specs.Registers.{Separators, IsRegister}
-use Rattle.register.proofs.Trees.{Tree, items_for, items-alike, all-entries, Held, Good, register-tree, register-after}
+use Rattle.register.proofs.Trees.{Tree, items_for, items-alike, all-entries}
 use Rattle.register.proofs.Homes.{Home}
+use Rattle.register.proofs.AtHome.{known, within, becomes}
 use Rattle.register.proofs.Full.{full-home}
 use Rattle.register.proofs.Holding.{held-one, held-two}
 use Rattle.register.proofs.Separators.{separators-more}
@@ -51,18 +52,11 @@ module _ (P : ℕ) (e : Entry) (images : List (List ℕ)) (h : Home P images e.k
   abbrev Result : List PageWrite → Type 0
   Result ws = IsRegister P (imaged ws images) × (entries_of (imaged ws images) ≡ insert key_of before e (entries_of images))
 
-  known : Held images was × Good P was
-  known = subst (λ t. Held images t × Good P t) h.parts (register-tree P images r)
+  keys : AllByRecursion (λ e. is_byte_key e.key ≡ true) (insert key_of before e (entries_of images))
+  keys = all_insert key_of before (λ e. is_byte_key e.key ≡ true) e (entries_of images) good r.keys
 
-  finish : (ws : List PageWrite) (t : Tree) → Held (imaged ws images) t → Shape key_of before zero_key P t → Separators (items_for t) → entries t ≡ insert key_of before e (entries_of images) → Result ws
-  finish ws t held shape separators same =
-      let s = register-after P ws images t r held record {
-        shape = shape;
-        separators = separators;
-        keys = subst (AllByRecursion (λ e. is_byte_key e.key ≡ true)) (sym same) (all_insert key_of before (λ e. is_byte_key e.key ≡ true) e (entries_of images) good r.keys);
-        fit = subst (AllByRecursion EntryFit) (sym same) (all_insert key_of before EntryFit e (entries_of images) fit r.entries_fit);
-      } in
-      (s.0, s.1 ∙ same)
+  fits : AllByRecursion EntryFit (insert key_of before e (entries_of images))
+  fits = all_insert key_of before EntryFit e (entries_of images) fit r.entries_fit
 
   -- the tree's own law
   abbrev Law : Option Tree → Type 0
@@ -76,27 +70,26 @@ module _ (P : ℕ) (e : Entry) (images : List (List ℕ)) (h : Home P images e.k
   same_entries : (t : Tree) → entries t ≡ insert key_of before e (entries (h.first ∷ h.rest)) → entries t ≡ insert key_of before e (entries_of images)
   same_entries t s = s ∙ ap (λ t. insert key_of before e (entries t)) (sym h.whole)
 
-  within : leaf.page < length images
-  within = omega (arith, h.to, r.all)
-
   put-one : ltb (length leaf.entries) 15 ≡ true → Result (write leaf.page (leaf_page es) ∷ [])
   put-one a =
       let l = subst Law (cond-true _ _ _ a) law in
-      finish (write leaf.page (leaf_page es) ∷ []) one (held-one images h.left h.right leaf known.0 h.apart-left h.apart-right h.root within es) l.0
-      (subst Separators (items-alike h.left h.right leaf es) known.1.separators) (same_entries one l.1)
+      let stands = known P e.key images h r in
+      becomes P images r (insert key_of before e (entries_of images)) keys fits (write leaf.page (leaf_page es) ∷ []) one (held-one images h.left h.right leaf stands.0 h.apart-left h.apart-right h.root (within P e.key images h r) es)
+      (subst Separators (items-alike h.left h.right leaf es) stands.1.separators) (l.0, same_entries one l.1)
 
   put-two : ltb (length leaf.entries) 15 ≡ false → ltb (length was) (min 20 (P - 1)) ≡ true → Result (write leaf.page (leaf_page (take 8 es)) ∷ write q (leaf_page (drop 8 es)) ∷ write 0 (root_page (items_for two)) ∷ [])
   put-two a b =
+      let stands = known P e.key images h r in
       let n16 : length es ≡ 16 = omega (arith, length-insert key_of before e leaf.entries, h.few, ltb-false _ _ a) in
       let new = node (get_or es 8 no_entry).key q (drop 8 es) in
       let t : h.left ++ (split key_of before q e leaf ++ h.right) ≡ two = ap (λ s. h.left ++ node leaf.sep leaf.page (take 8 es) ∷ (s ++ h.right)) (second-is q es (omega arith)) in
       let l = subst Law (cond-false _ _ _ a ∙ cond-true _ _ _ b ∙ ap Some t) law in
       let free = lowest_free (P - 1) 1 (pages was) (omega (arith, ltb-true _ _ b, length-map was (λ (n : Node (List ℕ) Entry). n.page))) in
-      let own = all-parts (λ n. AllByRecursion (λ e. is_byte_key e.key ≡ true) n.entries) h.left (leaf ∷ h.right) (all-entries (λ e. is_byte_key e.key ≡ true) was known.1.keys) in
+      let own = all-parts (λ n. AllByRecursion (λ e. is_byte_key e.key ≡ true) n.entries) h.left (leaf ∷ h.right) (all-entries (λ e. is_byte_key e.key ≡ true) was stands.1.keys) in
       let key : is_byte_key new.sep ≡ true = All-get_or (λ e. is_byte_key e.key ≡ true) es 8 no_entry (omega arith) (all_insert key_of before (λ e. is_byte_key e.key ≡ true) e leaf.entries good own.1.0) in
-      finish (write leaf.page (leaf_page (take 8 es)) ∷ write q (leaf_page (drop 8 es)) ∷ write 0 (root_page (items_for two)) ∷ []) two
-      (held-two images h.left h.right leaf known.0 h.apart-left h.apart-right h.root within q new.sep (take 8 es) (drop 8 es) free.not_in free.from (omega (arith, free.below, r.all))) l.0
-      (separators-more h.left h.right leaf (node leaf.sep leaf.page (take 8 es)) new refl key known.1.separators) (same_entries two l.1)
+      becomes P images r (insert key_of before e (entries_of images)) keys fits (write leaf.page (leaf_page (take 8 es)) ∷ write q (leaf_page (drop 8 es)) ∷ write 0 (root_page (items_for two)) ∷ []) two
+      (held-two images h.left h.right leaf stands.0 h.apart-left h.apart-right h.root (within P e.key images h r) q new.sep (take 8 es) (drop 8 es) free.not_in free.from (omega (arith, free.below, r.all)))
+      (separators-more h.left h.right leaf (node leaf.sep leaf.page (take 8 es)) new refl key stands.1.separators) (l.0, same_entries two l.1)
 
   pub put-register : is_full P images e.key ≡ false → Result (put_writes P e images)
   put-register room =
