@@ -18,6 +18,7 @@ use Rattle.register.specs.Changes.{changed, told}
 use Rattle.register.specs.Said.{of_key, says, said_from, said}
 use Rattle.register.specs.declared.replay.Change.{Change}
 use Rattle.register.specs.declared.replay.Change.TheVariants.{Put, Take}
+use Rattle.register.proofs.SortedEntries.{register-sorted}
 
 same-key : (k : List ℕ) (key : Key) → of_key k key ≡ true → key.bytes ≡ k
 same-key k key p = (bytes_decides key.bytes k).0 p
@@ -68,3 +69,6 @@ told-says k (c ∷ cs) es s = told-says k cs (changed c es) (changed-sorted c es
 
 pub looked-up : (k : List ℕ) (cs : List Change) (es : List Entry) → es ≡ told cs [] → look_up key_of before k es ≡ said k cs
 looked-up k cs es h = ap (look_up key_of before k) h ∙ told-says k cs [] tt
+
+-- What the check takes up by itself where changes were carried out.
+pub ruleset carried = (register-sorted, looked-up)

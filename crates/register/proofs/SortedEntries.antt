@@ -22,3 +22,6 @@ entries-sorted key lt o (n ∷ m ∷ ms) hi f =
 
 pub register-sorted : (P : ℕ) (images : List (List ℕ)) → IsRegister P images → Sorted key_of before (entries_of images)
 register-sorted P images r = entries-sorted key_of before keys-ordered (tree_of images) None r.shape.fine
+
+-- What the check takes up by itself where a call promises the order.
+pub ruleset sorted = (register-sorted)

@@ -44,6 +44,7 @@ impl<'a, P: Paged> Iterator for Entries<'a, P> {
 
 impl<'a, P: Paged> Lookup<'a, P> {
     /// All entries, in the order of their keys.
+    #[tactic(auto, using(crate::proofs::SortedEntries::sorted))]
     pub fn entries(&self) -> Entries<'a, P>
         ensures all { result ≡ entries_of (map P.image self.now.pages.now) }
         ensures ordered { Sorted key_of before (entries_of (map P.image self.now.pages.now)) }

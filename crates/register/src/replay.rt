@@ -22,6 +22,7 @@ pub enum Change {
 
 /// Formats the pages and carries out changes on them in order, up to the first that is refused. Answers how many were carried out.
 // The number of pages is asked here for the reason that stands at `Register::format`.
+#[tactic(auto, using(crate::proofs::Saying::carried))]
 pub fn replay<P: Paged>(pages: &mut [P], changes: &[Change]) -> usize
     requires least { 2 ≤ length pages.old }
     requires most { length pages.old ≤ 21 }

@@ -4,8 +4,6 @@ use Rattle.std.proofs.lemmas.List.Sums.{fold_push}
 use Rattle.std.proofs.lemmas.Option.{get_or_from_slice_get, slice_get_within}
 use Rattle.register.specs.Changes.{changed, told}
 use Rattle.register.specs.declared.replay.Change.{Change}
-use Rattle.register.proofs.SortedEntries.{register-sorted}
-use Rattle.register.proofs.Saying.{looked-up}
 use Rattle.register.proofs.Telling.{refused, granted, stopped}
 use Rattle.register.proofs.replay.replay.Goals as goal
 
@@ -37,15 +35,3 @@ loop-i-preserved g c =
 
 pub returns-clause-full : goal.returns-clause-full
 returns-clause-full g c = λ other at. absurd (omega (arith, slice_get_within c.args.changes.now (length c.args.changes.now) other at))
-
-pub returns-then-is_err-clause-ordered : goal.returns-then-is_err-clause-ordered
-returns-then-is_err-clause-ordered g c = search (rules, register-sorted)
-
-pub returns-then-is_err-clause-says : goal.returns-then-is_err-clause-says
-returns-then-is_err-clause-says g c = λ k. search (rules, looked-up)
-
-pub returns-clause-ordered : goal.returns-clause-ordered
-returns-clause-ordered g c = search (rules, register-sorted)
-
-pub returns-clause-says : goal.returns-clause-says
-returns-clause-says g c = λ k. search (rules, looked-up)

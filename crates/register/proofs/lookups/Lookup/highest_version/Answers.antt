@@ -10,22 +10,15 @@ use Rattle.register.proofs.lookups.Lookup.highest_version.Goals as goal
 name-long : (name : Name) → length name.bytes ≡ 20
 name-long name = let good = name.good in grind (arith, nat_tests)
 
-pub returns-clause-value : goal.returns-clause-value
-returns-clause-value g c =
-    let name = c.args.name.now.bytes in
-    let images = map g.P.Paged.image c.args.self.now.pages.now in
-    let h = highest_version_of name (entries_of images) in
-    let is : h ≡ number_or c.and_then.result =
-    version-is h c.newest.result c.and_then.result _ (highest-stands (length c.args.self.now.pages.now) name images c.args.self.now.kept ∙ ap version_or (sym c.newest.ensures)) (highest-most name (entries_of images) c.args.self.now.kept.keys)
-    c.and_then.ensures (λ e p. search rules) in
-    at-number (λ n. h ≡ n) c.and_then.result is
-
-pub returns-clause-next : goal.returns-clause-next
-returns-clause-next g c =
+pub returns : goal.returns
+returns g c =
     let name = c.args.name.now in
     let images = map g.P.Paged.image c.args.self.now.pages.now in
     let h = highest_version_of name.bytes (entries_of images) in
     let is : h ≡ number_or c.and_then.result =
     version-is h c.newest.result c.and_then.result _ (highest-stands (length c.args.self.now.pages.now) name.bytes images c.args.self.now.kept ∙ ap version_or (sym c.newest.ensures)) (highest-most name.bytes (entries_of images) c.args.self.now.kept.keys)
     c.and_then.ensures (λ e p. search rules) in
-    at-number (λ n. NextFree name.bytes n (entries_of images)) c.and_then.result (fresh-version name.bytes (number_or c.and_then.result) (entries_of images) (name-long name) is)
+    record {
+      value = at-number (λ n. h ≡ n) c.and_then.result is;
+      next = at-number (λ n. NextFree name.bytes n (entries_of images)) c.and_then.result (fresh-version name.bytes (number_or c.and_then.result) (entries_of images) (name-long name) is);
+    }
