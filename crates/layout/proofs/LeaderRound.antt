@@ -4,6 +4,7 @@ use Rattle.std.proofs.lemmas.List.{take_at, drop_at, drop-drop, append_assoc, ge
 use Rattle.std.proofs.lemmas.Bool.Decides.{nat_tests}
 use Rattle.geometry.specs.Sizes.{longest}
 use Rattle.names.specs.Names.{is_key}
+use Rattle.names.proofs.Stored.{key-long}
 use Rattle.layout.specs.Padded.{Decodes, padded, all_zeros, four_bytes, tag_is}
 use Rattle.layout.proofs.Decoded.{decodes}
 use Rattle.layout.specs.Leaders.{LeaderFits, encode_leader, length_of, leader_of, decode_leader}
@@ -20,16 +21,12 @@ leader-is rest z short key =
     let test : leb (length_of rest) longest ≡ true = grind (arith, nat_tests) in
     opened (all_zeros (drop 26 rest)) _ _ _ z (and_from (leb (length_of rest) longest) (is_key (take 22 rest)) test key)
 
--- A key has 22 bytes.
-key-length : (k : List ℕ) → is_key k ≡ true → length k ≡ 22
-key-length k h = grind (arith, nat_tests)
-
 pub leader-round : (l : Leader) → LeaderFits l → decode_leader (encode_leader l) ≡ Some l
 unfolding padded
 leader-round l fits =
     let key = l.key in
     let four = four_bytes l.length in
-    let long = key-length key fits.0 in
+    let long = key-long key fits.0 in
     let n = 512 - length (70 ∷ 83 ∷ 68 ∷ 76 ∷ (key ++ four)) in
     let z : List ℕ = replicate n 0 in
     let rest = key ++ (four ++ z) in

@@ -4,6 +4,9 @@
 --     stored-name      a good text filled up with zeros is a name
 --     stored-key       a name and a version are a key
 --     stored-byte-key  its last byte is below 256
+--     key-long         a key has 22 bytes
+--     byte-key-long    so has one whose last byte is below 256
+--     letter-ascii     a letter is below 128
 --     key-bytes        if the last byte of a key is below 256, all its bytes are
 use Rattle.std.proofs.Common.{◌≡◌, ℕ, zero, suc, ◌-◌, ◌/◌, ◌%◌, ◌<◌, ◌≤◌, true, false, cond, ◌&&◌, ◌==◌, List, [], ◌∷◌, ◌++◌, length, get_or, take, drop, replicate, sym, refl, ap, ◌∙◌, subst, arith}
 use Rattle.std.specs.List.{AllByRecursion}
@@ -64,10 +67,16 @@ module _ (key name : List ℕ) (n : ℕ) (is : key ≡ name ++ two_bytes n) (goo
   pub stored-byte-key : is_byte_key key ≡ true
   stored-byte-key = and_from _ _ stored-key (lt-ltb (get_or key 21 0) 256 (omega (arith, low)))
 
--- The bytes of a stored name are below 256.
-letter-small : (b : ℕ) → letter b ≡ true → b < 256
-letter-small b h = grind (arith, nat_tests)
+pub key-long : (key : List ℕ) → is_key key ≡ true → length key ≡ 22
+key-long key h = grind (arith, nat_tests)
 
+pub byte-key-long : (key : List ℕ) → is_byte_key key ≡ true → length key ≡ 22
+byte-key-long key h = key-long key (and_parts _ _ h).0
+
+pub letter-ascii : (b : ℕ) → letter b ≡ true → b < 128
+letter-ascii b h = grind (arith, nat_tests)
+
+-- The bytes of a stored name are below 256.
 zeros-small : (bytes : List ℕ) → zeros bytes ≡ true → AllByRecursion (λ b. b < 256) bytes
 zeros-small [] h = tt
 zeros-small (b ∷ bytes) h =
@@ -79,7 +88,7 @@ follow-small : (bytes : List ℕ) → letters_then_zeros bytes ≡ true → AllB
 follow-small [] h = tt
 follow-small (b ∷ bytes) h =
     elim (letter b) as (λ v. letter b ≡ v → cond v (letters_then_zeros bytes) (b == 0 && zeros bytes) ≡ true → AllByRecursion (λ b. b < 256) (b ∷ bytes)) [
-      | true ↦ λ l r. (letter-small b l, follow-small bytes r)
+      | true ↦ λ l r. (omega (arith, letter-ascii b l), follow-small bytes r)
       | false ↦ λ l r. let both = and_parts (b == 0) (zeros bytes) r in let z = eqb-true b 0 both.0 in (omega arith, zeros-small bytes both.1)
     ] refl (sym (letters-step b bytes) ∙ h)
 
@@ -90,7 +99,7 @@ key-bytes key h =
     let b = and_parts _ _ a.0 in
     let c = and_parts _ _ b.0 in
     let d = and_parts _ _ c.0 in
-    let long : length key ≡ 22 = eqb-true (length key) 22 d.0 in
+    let long : length key ≡ 22 = key-long key a.0 in
     let low : get_or key 21 0 < 256 = ltb-true (get_or key 21 0) 256 a.1 in
     let high : get_or key 20 0 < 256 = (let v = leb-true (version_of key) highest b.1 in omega arith) in
     let rest : drop 20 key ≡ get_or key 20 0 ∷ get_or key 21 0 ∷ [] =

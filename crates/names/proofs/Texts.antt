@@ -8,7 +8,7 @@ use Rattle.std.proofs.lemmas.List.{length-append, length-replicate}
 use Rattle.std.proofs.lemmas.List.Sums.{take_while-cons}
 use Rattle.std.proofs.lemmas.Bool.Decides.{nat_tests}
 use Rattle.std.proofs.lemmas.Bool.{and_from, and_parts, eqb-true, both_ways}
-use Rattle.names.proofs.Stored.{letters-step}
+use Rattle.names.proofs.Stored.{letters-step, letter-ascii}
 use Rattle.names.specs.Names.{letter, letters, zeros, letters_then_zeros, GoodName, filled, is_name, HasText, text_of}
 
 -- letters, and so many zeros after them
@@ -63,9 +63,6 @@ before-zeros (b ∷ text) n h =
     let more = before-zeros text n both.1 in
     let passes : not (eqb b 0) ≡ true = grind (arith, nat_tests, both.0) in
     rw take_while-cons (rw (passes, more) refl)
-
-letter-ascii : (b : ℕ) → letter b ≡ true → b < 128
-letter-ascii b h = grind (arith, nat_tests)
 
 letters-ascii : (text : List ℕ) → letters text ≡ true → (i : ℕ) → get_or text i 0 < 128
 letters-ascii [] h i = omega arith

@@ -7,6 +7,7 @@ use Rattle.std.proofs.Common.{◌≡◌, ℕ, ◌<◌, true, false, List, map, l
 use Rattle.std.proofs.lemmas.Bool.Decides.{nat_tests}
 use Rattle.names.specs.Orders.{before}
 use Rattle.names.specs.declared.key.Key.{Key}
+use Rattle.names.proofs.Stored.{byte-key-long}
 use Rattle.rows.specs.Lists.{look_up}
 use Rattle.pages.specs.Writes.{wrote}
 use Rattle.pages.specs.declared.records.Entry.{Entry}
@@ -17,7 +18,6 @@ use Rattle.register.specs.Registers.{IsRegister}
 use Rattle.register.specs.Seats.{Seated}
 use Rattle.register.specs.declared.seats.Seat.{Seat}
 use Rattle.register.proofs.BySeat.{full-by-seat}
-use Rattle.register.proofs.ZeroKey.{key-long}
 use Rattle.register.proofs.Stand.{put-stands, take-stands}
 
 module _ {X : Type 0} (image : X → List ℕ) where
@@ -36,7 +36,7 @@ module _ {X : Type 0} (image : X → List ℕ) (written : X → List ℕ → X) 
       let full = full-by-seat (length old) (map image old) key.bytes s h in
       let room : is_full (length old) (map image old) key.bytes ≡ false = grind (arith, nat_tests) in
       let images = ap (map image) left ∙ map-wrote image written holds (put_writes (length old) e (map image old)) old in
-      let stands = put-stands (length old) e (map image old) register (key-long key.bytes key.stored, from, to) key.stored fresh room in
+      let stands = put-stands (length old) e (map image old) register (byte-key-long key.bytes key.stored, from, to) key.stored fresh room in
       (room, left, subst (IsRegister (length old)) (sym images) stands.0, ap entries_of images ∙ stands.1)
 
   pub take-done : (k : List ℕ) (e : Entry) → length k ≡ 22 → look_up key_of before k (entries_of (map image old)) ≡ Some e

@@ -13,10 +13,10 @@ use Rattle.std.proofs.lemmas.Bool.Decides.{nat_tests}
 use Rattle.names.specs.Names.{is_byte_key, two_bytes, version_of}
 use Rattle.names.specs.Versions.{highest}
 use Rattle.names.specs.Orders.{before}
+use Rattle.names.proofs.Stored.{byte-key-long}
 use Rattle.pages.specs.Bytes.{AreBytes}
 use Rattle.pages.specs.declared.records.Entry.{Entry}
 use Rattle.register.specs.Names.{has_name}
-use Rattle.register.proofs.ZeroKey.{key-long}
 use Rattle.register.proofs.FrontOrder.{same-front, between}
 
 -- the last key of a name
@@ -55,7 +55,7 @@ module _ (name : List ℕ) where
 
   pub last-not-below : (e : Entry) → is_byte_key e.key ≡ true → has_name name e ≡ true → before (last_key name) e.key ≡ false
   last-not-below e good named =
-      ap (before (last_key name)) (named-is e (key-long e.key good) named) ∙ same-front name (two_bytes 9999) (rest e) ∙ last-rest (get_or e.key 20 0) (get_or e.key 21 0) (key-version e.key good)
+      ap (before (last_key name)) (named-is e (byte-key-long e.key good) named) ∙ same-front name (two_bytes 9999) (rest e) ∙ last-rest (get_or e.key 20 0) (get_or e.key 21 0) (key-version e.key good)
 
   pub named-between : (e f : Entry) → length e.key ≡ 22 → length f.key ≡ 22 → has_name name e ≡ true → before f.key e.key ≡ false → before (last_key name) f.key ≡ false → has_name name f ≡ true
   named-between e f l m named from to =

@@ -16,7 +16,7 @@ use Rattle.names.specs.Versions.{highest, InRange}
 use Rattle.names.specs.declared.version.Version.{Version}
 use Rattle.names.specs.Orders.{before}
 use Rattle.names.proofs.ByteOrder.{keys-ordered}
-use Rattle.names.proofs.Stored.{key-bytes}
+use Rattle.names.proofs.Stored.{byte-key-long, key-bytes}
 use Rattle.rows.specs.Lists.{Sorted, look_up, last_up_to, or_else}
 use Rattle.rows.proofs.Sorting.{not_back}
 use Rattle.pages.specs.Bytes.{AreBytes}
@@ -25,7 +25,6 @@ use Rattle.register.specs.Images.{key_of, entries_of}
 use Rattle.register.specs.Registers.{IsRegister}
 use Rattle.register.specs.Names.{has_name, newest_of, highest_version_of}
 use Rattle.register.proofs.FoundEntries.{kept, Found, either, both, last-there}
-use Rattle.register.proofs.ZeroKey.{key-long}
 use Rattle.register.proofs.NamedKeys.{last_key, key-version, last-not-below, named-between, version-rises, made-named, made-version}
 use Rattle.register.proofs.SortedEntries.{register-sorted}
 
@@ -74,7 +73,7 @@ module _ (name : List ℕ) where
       step None h f = newest-more e es ∙ ap (λ v. cond (has_name name e) (or_else v (Some e)) v) h
       step (Some y) h f =
           let back = not_back before keys-ordered e.key y.key f.0.0 in
-          let also = named-between name e y (key-long e.key g.0) (key-long y.key f.0.1) in
+          let also = named-between name e y (byte-key-long e.key g.0) (byte-key-long y.key f.0.1) in
           newest-more e es ∙ ap (λ v. cond (has_name name e) (or_else v (Some e)) v) h ∙ grind (arith, cases_Bool (has_name name e), cases_Bool (has_name name y))
 
   pub highest-in : (es : List Entry) → Sorted key_of before es → Good es → AllByRecursion (λ e. AreBytes e.key) es → highest_version_of name es ≡ version_or (newest_of name es)
@@ -89,7 +88,7 @@ module _ (name : List ℕ) where
           → cond (has_name name e) (max (version_of e.key) (highest_version_of name es)) (highest_version_of name es) ≡ version_or (cond (has_name name e) (or_else v (Some e)) v)
       step None h f = grind (arith, cases_Bool (has_name name e))
       step (Some y) h f =
-          let above = λ (named : has_name name e ≡ true). version-rises name e y (key-long e.key g.0) (key-long y.key f.0.1.0) b.0 f.0.1.1 named f.1 f.0.0 in
+          let above = λ (named : has_name name e ≡ true). version-rises name e y (byte-key-long e.key g.0) (byte-key-long y.key f.0.1.0) b.0 f.0.1.1 named f.1 f.0.0 in
           grind (arith, cases_Bool (has_name name e))
 
   pub highest-most : (es : List Entry) → Good es → highest_version_of name es ≤ highest

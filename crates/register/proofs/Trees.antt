@@ -14,6 +14,7 @@ use Rattle.std.proofs.ByRecursion.{All-map}
 use Rattle.std.proofs.lemmas.List.{length-map, map-append}
 use Rattle.names.specs.Names.{is_byte_key}
 use Rattle.names.specs.Orders.{before}
+use Rattle.names.proofs.Stored.{byte-key-long}
 use Rattle.rows.proofs.Sorting.{all-parts}
 use Rattle.tree.specs.Tree.{Node, node, pages, entries, Shape}
 use Rattle.pages.specs.Bytes.{records_of}
@@ -25,7 +26,7 @@ use Rattle.pages.specs.declared.records.Item.{Item}
 use Rattle.pages.specs.declared.records.Entry.{Entry}
 use Rattle.register.specs.Images.{zero_key, key_of, item, page_at, items_of, leaf_of, node_of, tree_of, entries_of, leaf_page, root_page, pages_of}
 use Rattle.register.specs.Registers.{Separators, IsRegister}
-use Rattle.register.proofs.ZeroKey.{zero_key-long, key-long}
+use Rattle.register.proofs.ZeroKey.{zero_key-long}
 use Rattle.register.proofs.Written.{length-imaged}
 
 abbrev pub Tree : Type 0
@@ -72,7 +73,7 @@ register-tree P images r =
 
 keys-fit : (P : ℕ) (is : List Item) → P ≤ 21 → AllByRecursion (λ i. is_byte_key i.separator ≡ true) is → AllByRecursion (λ i. (1 ≤ i.page) × (i.page < P)) is → AllByRecursion ItemFit is
 keys-fit P [] m s r = tt
-keys-fit P (i ∷ is) m s r = ((key-long i.separator s.0, omega (arith, r.0)), keys-fit P is m s.1 r.1)
+keys-fit P (i ∷ is) m s r = ((byte-key-long i.separator s.0, omega (arith, r.0)), keys-fit P is m s.1 r.1)
 
 pub items-fit : (P : ℕ) (is : List Item) → P ≤ 21 → Separators is → AllByRecursion (λ i. (1 ≤ i.page) × (i.page < P)) is → AllByRecursion ItemFit is
 items-fit P [] m s r = tt

@@ -11,6 +11,7 @@ use Rattle.std.proofs.lemmas.Bool.{both_ways, cases_Bool}
 use Rattle.std.proofs.lemmas.Bool.Decides.{nat_tests}
 use Rattle.names.specs.Names.{is_byte_key}
 use Rattle.names.specs.Orders.{before}
+use Rattle.names.proofs.Stored.{byte-key-long}
 use Rattle.tree.specs.Tree.{pages, bound, Shape, Apart}
 use Rattle.pages.specs.Records.{item_of, entry_of, EntryFit}
 use Rattle.pages.specs.declared.records.Item.{Item}
@@ -22,7 +23,6 @@ use Rattle.register_check.specs.Extents.{InPlace}
 use Rattle.register_check.specs.Extents.{Apart as ExtentsApart}
 use Rattle.register_check.specs.Leaves.{limits, EntryRight, LeafRight}
 use Rattle.register_check.specs.Faults.{extents_of, Kept, IsRootRight}
-use Rattle.register.proofs.ZeroKey.{key-long}
 use Rattle.register.proofs.Trees.{items-fit, all-entries}
 use Rattle.register_check.proofs.LeafSearch.{LeavesRight}
 use Rattle.register_check.proofs.Joined.{all-joined, all-mapped}
@@ -96,7 +96,7 @@ module _ (first sectors P : ℕ) (images : List (List ℕ)) where
       separators = r.root.separators;
       keys = each-entry (λ e. is_byte_key e.key ≡ true) (λ k next e q. q.key) r;
       items_fit = items-fit P items most r.root.separators r.root.range;
-      entries_fit = each-entry EntryFit (λ k next e q. (key-long e.key q.key, omega (arith, q.placed.ends), omega (arith, q.placed.length))) r;
+      entries_fit = each-entry EntryFit (λ k next e q. (byte-key-long e.key q.key, omega (arith, q.placed.ends), omega (arith, q.placed.length))) r;
     },
     each-entry (InPlace first sectors) (λ k next e q. q.placed) r,
     r.apart,
