@@ -73,6 +73,7 @@ impl<D: Disk> Marking<D> {
     }
 
     // A start after the failure.
+    // A read and a write with the power on again end in the same way, each with marks of its own: a function for the three would take the marks and the answer, and be as long as the two lines that it saves.
     fn start_again(&mut self, lost: Lost) -> Result<(), Fault>
         requires { (self.old.phase ≡ Off lost) ⊎ (self.old.phase ≡ On lost) }
         ensures rule { Starts (marking_state self.old) result (marking_state self.new) }

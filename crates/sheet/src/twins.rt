@@ -8,6 +8,7 @@ use disk::faults::Fault;
 use refusal::Refusal;
 
 /// The sectors of a sheet's two copies.
+// That the two lie apart is no fact of this type: `fetch` reads any two, and `renew` promises 15 for those that do not.
 #[derive(Clone, Copy, PartialEq, Eq, Debug)]
 pub struct Copies {
     pub first: u32,
