@@ -27,6 +27,7 @@ fn read_all<R: Stored + Copy>(page: &[u8; 512], out: &mut [R])
     requires { Room R.WIDE (length out.old) }
     ensures { out.new ≡ values R.value R.WIDE (length out.old) (drop 32 page.now) }
 {
+    // By a rest, and not by a `zip` with `chunks_exact(R::WIDE)`: that was tried, and it requires that a record has at least one byte, which no kind of record promises.
     let mut rest = &page[32..];
     for record in out.iter_mut() {
         let (bytes, behind) = rest.split_at(R::WIDE);
