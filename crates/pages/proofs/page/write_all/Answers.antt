@@ -5,18 +5,6 @@ use Rattle.std.proofs.lemmas.List.Edits.{length-paste, paste_none}
 use Rattle.pages.proofs.Places.{put, times_more, place-fits, written-more}
 use Rattle.pages.proofs.page.write_all.Goals as goal
 
-pub overflow_mul-at : goal.overflow_mul-at
-overflow_mul-at g c = omega (arith, place-fits c.WIDE-wide.result _ c.loop-i.i _ c.WIDE-wide.ensures c.loop-i-test.true c.requires)
-
-pub overflow_add-at : goal.overflow_add-at
-overflow_add-at g c = omega (arith, place-fits c.WIDE-wide.result _ c.loop-i.i _ c.WIDE-wide.ensures c.loop-i-test.true c.requires)
-
-pub overflow_add-at-in-loop-i : goal.overflow_add-at-in-loop-i
-overflow_add-at-in-loop-i g c = omega (arith, place-fits c.WIDE-wide.result _ c.loop-i.i _ c.WIDE-wide.ensures c.loop-i-test.true c.requires)
-
-pub slice_bounds-write-end : goal.slice_bounds-write-end
-slice_bounds-write-end g c = omega (arith, place-fits c.WIDE-wide.result _ c.loop-i.i _ c.WIDE-wide.ensures c.loop-i-test.true c.requires)
-
 pub loop-i-init : goal.loop-i-init
 loop-i-init g c = (paste_none c.args.page.now 32 [], omega arith, c.told-page)
 
