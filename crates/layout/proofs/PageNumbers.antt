@@ -2,30 +2,23 @@
 --     rises-answer    the test of neighbours tells whether the numbers rise
 --     pages-many      more numbers are wanted than stand there
 --     pages-split     the listed numbers rise and are below the limit, and the others are zeros
-use Rattle.std.proofs.Common.{◌≡◌, ℕ, zero, suc, ◌+◌, ◌<◌, ◌≤◌, Bool, true, false, ◌&&◌, ltb, leb, List, [], ◌∷◌, ◌++◌, length, get_or, sym, refl, ap₂, ◌∙◌, add-one, arith}
+use Rattle.std.proofs.Common.{◌≡◌, ℕ, zero, suc, ◌+◌, ◌<◌, Bool, true, false, ◌&&◌, ltb, leb, List, [], ◌∷◌, ◌++◌, length, sym, refl, ap₂, ◌∙◌, arith}
 use Rattle.std.specs.List.{IsSplitAt, IsAllAdjacentAnswer, list_all}
 use Rattle.std.proofs.lemmas.List.{take-append-drop}
 use Rattle.std.proofs.lemmas.Bool.Decides.{nat_tests}
+use Rattle.names.proofs.Chains.{pass-answer}
 use Rattle.layout.specs.Padded.{all_zeros}
 use Rattle.layout.specs.Heads.{rises, good_pages}
 use Rattle.std.proofs.lemmas.Bool.{and_right}
 
-rises-true : (low : ℕ) (xs : List ℕ) → (0 < length xs → low ≤ get_or xs 0 0) → ((k : ℕ) → suc k < length xs → get_or xs k 0 < get_or xs (suc k) 0) → rises low xs ≡ true
-rises-true low [] first up = refl
-rises-true low (x ∷ xs) first up =
-    let more = rises-true (x + 1) xs (λ h. let u = up 0 (omega arith) in omega arith) (λ k h. up (suc k) (omega arith)) in
-    let test : low ≤ x = first (omega arith) in
-    grind (arith, nat_tests)
+rises-one : (x : ℕ) → rises 0 (x ∷ []) ≡ true
+rises-one x = grind (arith, nat_tests)
 
-rises-false : (low k : ℕ) (xs : List ℕ) → suc k < length xs → (get_or xs k 0 < get_or xs (suc k) 0 → ⊥) → rises low xs ≡ false
-rises-false low k [] within not = absurd (omega arith)
-rises-false low k (x ∷ []) within not = absurd (omega arith)
-rises-false low zero (x ∷ y ∷ xs) within not = grind (arith, nat_tests)
-rises-false low (suc k) (x ∷ y ∷ xs) within not = and_right (leb low x) _ (rises-false (x + 1) k (y ∷ xs) (omega arith) not)
+rises-more : (x y : ℕ) (ys : List ℕ) → rises 0 (x ∷ y ∷ ys) ≡ (ltb x y && rises 0 (y ∷ ys))
+rises-more x y ys = grind (arith, nat_tests)
 
 pub rises-answer : (xs : List ℕ) (r : Bool) → IsAllAdjacentAnswer (λ x y b. b ≡ ltb x y) xs r → r ≡ rises 0 xs
-rises-answer xs true up = sym (rises-true 0 xs (λ h. omega arith) (λ k h. let u = up k 0 (rw (add-one k) h) in grind (arith, nat_tests)))
-rises-answer xs false (k, within, down) = sym (rises-false 0 k xs (omega arith) (rw (← add-one k) (let d = down 0 in λ u. grind (arith, nat_tests))))
+rises-answer = pass-answer ltb (rises 0) refl rises-one rises-more
 
 pub pages-many : (ps : List ℕ) (left low limit : ℕ) → length ps < left → good_pages left low limit ps ≡ false
 unfolding good_pages

@@ -1,3 +1,4 @@
 pub mod ByteOrder
+pub mod Chains
 pub mod Stored
 pub mod Texts
