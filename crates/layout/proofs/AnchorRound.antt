@@ -1,15 +1,16 @@
 -- An anchor comes back from its sector, and from no other.
-use Rattle.std.proofs.Common.{◌≡◌, ℕ, zero, suc, ◌^◌, ◌<◌, true, ◌&&◌, List, ◌∷◌, length, get_or, drop, replicate, Some, None, Option, sym, refl, ap, ◌∙◌, ap₂, arith}
+use Rattle.std.proofs.Common.{◌≡◌, ℕ, zero, suc, ◌^◌, ◌<◌, ◌&&◌, List, ◌∷◌, length, get_or, drop, Some, None, Option, sym, refl, ap, ◌∙◌, ap₂, arith}
 use Rattle.geometry.specs.Thirds.{number_of, third_of}
 use Rattle.geometry.specs.declared.third.Third.{Third}
 use Rattle.geometry.specs.declared.third.Third.TheVariants.{Zero, One, Two}
-use Rattle.layout.specs.Padded.{Decodes, padded, all_zeros, four_bytes, number4, tag_is}
+use Rattle.names.specs.Names.{zeros}
+use Rattle.layout.specs.Padded.{Decodes, padded, four_bytes, number4, tag_is}
 use Rattle.layout.proofs.Decoded.{decodes}
 use Rattle.layout.specs.Anchors.{AnchorFits, encode_anchor, decode_anchor, anchor_at}
 use Rattle.layout.specs.declared.anchor.Anchor.{Anchor}
 use Rattle.std.proofs.lemmas.Bool.{and_parts}
-use Rattle.layout.proofs.Numbers.{four-number, four-back, opened, was-open, tag-letters}
-use Rattle.layout.proofs.Zeros.{gets, padded-gets, zeros-replicate}
+use Rattle.layout.proofs.Numbers.{four-number, four-back, was-open, tag-letters}
+use Rattle.layout.proofs.Zeros.{gets, padded-gets}
 
 third-back : (t : Third) → third_of (number_of t) ≡ Some t
 third-back Zero = refl
@@ -30,13 +31,12 @@ parts g (Some t) a e =
 
 pub anchor-round : (a : Anchor) → AnchorFits a → decode_anchor (encode_anchor a) ≡ Some a
 unfolding padded
-anchor-round a fits =
-    opened true (all_zeros (replicate 503 0)) _ _ refl (zeros-replicate 503) ∙ ap₂ anchor_at (four-number a.group fits) (third-back a.third)
+anchor-round a fits = ap₂ anchor_at (four-number a.group fits) (third-back a.third)
 
 pub anchor-exact : (s : List ℕ) (a : Anchor) → length s ≡ 512 → ((k : ℕ) → get_or s k 0 < 256) → decode_anchor s ≡ Some a → AnchorFits a × (s ≡ encode_anchor a)
 anchor-exact s a long small e =
-    let open-at = was-open (tag_is 70 83 68 65 s && all_zeros (drop 9 s)) _ a e in
-    let tests = and_parts (tag_is 70 83 68 65 s) (all_zeros (drop 9 s)) open-at.0 in
+    let open-at = was-open (tag_is 70 83 68 65 s && zeros (drop 9 s)) _ a e in
+    let tests = and_parts (tag_is 70 83 68 65 s) (zeros (drop 9 s)) open-at.0 in
     let letters = tag-letters 70 83 68 65 s tests.0 in
     let part = parts (number4 (get_or s 5 0) (get_or s 6 0) (get_or s 7 0) (get_or s 8 0)) (third_of (get_or s 4 0)) a open-at.1 in
     let third = number-back (get_or s 4 0) a.third part.0 in

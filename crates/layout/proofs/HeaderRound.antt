@@ -1,15 +1,15 @@
 -- A header comes back from its sector, and from no other.
-use Rattle.std.proofs.Common.{◌≡◌, ℕ, ◌+◌, ◌*◌, ◌^◌, ◌<◌, true, ◌&&◌, eqb, leb, List, ◌∷◌, ◌++◌, length, get_or, drop, replicate, Some, Option, sym, refl, ap, ◌∙◌, ap₂, arith}
+use Rattle.std.proofs.Common.{◌≡◌, ℕ, ◌+◌, ◌*◌, ◌^◌, ◌<◌, true, ◌&&◌, eqb, leb, List, ◌∷◌, ◌++◌, length, get_or, drop, Some, Option, sym, ap, ◌∙◌, ap₂, arith}
 use Rattle.std.proofs.lemmas.Bool.Decides.{nat_tests, Decides-eqb}
 use Rattle.geometry.specs.Places.{Good}
-use Rattle.layout.specs.Padded.{Decodes, padded, all_zeros, four_bytes, number4, tag_is}
-use Rattle.names.specs.Names.{two_bytes}
+use Rattle.layout.specs.Padded.{Decodes, padded, four_bytes, number4, tag_is}
+use Rattle.names.specs.Names.{zeros, two_bytes}
 use Rattle.layout.proofs.Decoded.{decodes}
 use Rattle.layout.specs.Headers.{HeaderFits, encode_header, good_numbers, header_of, decode_header}
 use Rattle.layout.specs.declared.header.Header.{Header}
 use Rattle.std.proofs.lemmas.Bool.{and_parts}
 use Rattle.layout.proofs.Numbers.{two-number, two-back, four-number, four-back, opened, was-open, tag-letters}
-use Rattle.layout.proofs.Zeros.{gets, padded-gets, zeros-replicate}
+use Rattle.layout.proofs.Zeros.{gets, padded-gets}
 
 good-passes : (p t n : ℕ) → Good p t n → good_numbers p t n ≡ true
 good-passes p t n good = grind (arith, nat_tests)
@@ -43,16 +43,15 @@ header-round count h fits =
     let p = h.pages in
     let third : h.third < 65536 = omega (arith, fits.0.3) in
     let sectors : h.sectors < 2 ^ 32 = omega (arith, fits.1, fits.2) in
-    opened true (all_zeros (replicate 500 0)) _ _ refl (zeros-replicate 500)
-    ∙ ap₂ (λ t n. header_of count p t n) (two-number h.third third) (four-number h.sectors sectors)
+    ap₂ (λ t n. header_of count p t n) (two-number h.third third) (four-number h.sectors sectors)
     ∙ right-numbers count p h.third h.sectors fits.1 fits.0
 
 pub header-exact : (count : ℕ) (s : List ℕ) (h : Header) → length s ≡ 512 → ((k : ℕ) → get_or s k 0 < 256) → decode_header count s ≡ Some h
     → HeaderFits count h × (s ≡ encode_header h)
 header-exact count s h long small is =
-    let open-at = was-open (tag_is 70 83 68 86 s && (eqb (get_or s 4 0) 1 && all_zeros (drop 12 s))) _ h is in
-    let tests = and_parts (tag_is 70 83 68 86 s) (eqb (get_or s 4 0) 1 && all_zeros (drop 12 s)) open-at.0 in
-    let more = and_parts (eqb (get_or s 4 0) 1) (all_zeros (drop 12 s)) tests.1 in
+    let open-at = was-open (tag_is 70 83 68 86 s && (eqb (get_or s 4 0) 1 && zeros (drop 12 s))) _ h is in
+    let tests = and_parts (tag_is 70 83 68 86 s) (eqb (get_or s 4 0) 1 && zeros (drop 12 s)) open-at.0 in
+    let more = and_parts (eqb (get_or s 4 0) 1) (zeros (drop 12 s)) tests.1 in
     let letters = tag-letters 70 83 68 86 s tests.0 in
     let edition = (Decides-eqb (get_or s 4 0) 1).0 more.0 in
     let p = get_or s 5 0 in

@@ -6,8 +6,8 @@ use Rattle.std.proofs.Common.{◌≡◌, ℕ, zero, suc, ◌+◌, ◌<◌, Bool,
 use Rattle.std.specs.List.{IsSplitAt, IsAllAdjacentAnswer, list_all}
 use Rattle.std.proofs.lemmas.List.{take-append-drop}
 use Rattle.std.proofs.lemmas.Bool.Decides.{nat_tests}
+use Rattle.names.specs.Names.{zeros}
 use Rattle.names.proofs.Chains.{pass-answer}
-use Rattle.layout.specs.Padded.{all_zeros}
 use Rattle.layout.specs.Heads.{rises, good_pages}
 use Rattle.std.proofs.lemmas.Bool.{and_right}
 
@@ -27,12 +27,12 @@ pages-many [] (suc n) low limit h = refl
 pages-many (p ∷ ps) zero low limit h = absurd (omega arith)
 pages-many (p ∷ ps) (suc n) low limit h = and_right (leb low p) _ (and_right (ltb p limit) _ (pages-many ps n (p + 1) limit (omega arith)))
 
-listed-first : (low limit : ℕ) (xs others : List ℕ) → good_pages (length xs) low limit (xs ++ others) ≡ (rises low xs && (list_all (λ p. ltb p limit) xs && all_zeros others))
+listed-first : (low limit : ℕ) (xs others : List ℕ) → good_pages (length xs) low limit (xs ++ others) ≡ (rises low xs && (list_all (λ p. ltb p limit) xs && zeros others))
 unfolding good_pages
 listed-first low limit [] others = refl
 listed-first low limit (x ∷ xs) others = let h = listed-first (x + 1) limit xs others in grind (arith, nat_tests)
 
 pub pages-split : (ps : List ℕ) (count limit : ℕ) (listed others : List ℕ) → IsSplitAt ps count listed others
-    → good_pages count 0 limit ps ≡ (rises 0 listed && (list_all (λ p. ltb p limit) listed && all_zeros others))
+    → good_pages count 0 limit ps ≡ (rises 0 listed && (list_all (λ p. ltb p limit) listed && zeros others))
 pages-split ps count limit listed others split =
     ap₂ (λ n l. good_pages n 0 limit l) (sym split.3) (sym (take-append-drop count ps) ∙ ap₂ (λ a b. a ++ b) (sym split.1) (sym split.2)) ∙ listed-first 0 limit listed others

@@ -1,28 +1,18 @@
 -- Fields and then zeros: how a sector of that shape is written, tested and told apart.
---     zeros-replicate                      zeros pass the test: the lemma on names, under this name of the test
---     replicate-zeros                      what passes is zeros, likewise
 --     padded-front                         a sector whose end is zeros is its front, padded
 --     padded-more                          more fields behind those of a padded sector
 --     gets, padded-gets                    a padded sector by its first bytes, each by itself
 use Rattle.std.proofs.Common.{◌≡◌, ℕ, zero, suc, ◌+◌, ◌-◌, ◌<◌, ◌≤◌, true, List, [], ◌∷◌, ◌++◌, length, get_or, take, drop, replicate, sym, refl, ap, ◌∙◌, ap₂, add-one, arith}
 use Rattle.std.proofs.lemmas.List.{drop_more, take-append-drop, take_at, length-drop, length-take, length-append, append_assoc, drop_at, drop-replicate}
 use borrow.Rule.Slice.PartMut.{put_mid}
-use Rattle.names.proofs.Stored.{zeros-only}
+use Rattle.names.specs.Names.{zeros}
 use Rattle.names.proofs.Texts.{all-zeros}
-use Rattle.layout.specs.Padded.{padded, all_zeros}
+use Rattle.layout.specs.Padded.{padded}
 
-pub zeros-replicate : (n : ℕ) → all_zeros (replicate n 0) ≡ true
-unfolding all_zeros
-zeros-replicate = zeros-only
-
-pub replicate-zeros : (xs : List ℕ) → all_zeros xs ≡ true → xs ≡ replicate (length xs) 0
-unfolding all_zeros
-replicate-zeros = all-zeros
-
-pub padded-front : (k : ℕ) (xs : List ℕ) → length xs ≡ 512 → k ≤ 512 → all_zeros (drop k xs) ≡ true → xs ≡ padded (take k xs)
+pub padded-front : (k : ℕ) (xs : List ℕ) → length xs ≡ 512 → k ≤ 512 → zeros (drop k xs) ≡ true → xs ≡ padded (take k xs)
 unfolding padded
-padded-front k xs long within zeros =
-    let rest = replicate-zeros (drop k xs) zeros in
+padded-front k xs long within clear =
+    let rest = all-zeros (drop k xs) clear in
     let many : length (drop k xs) ≡ 512 - length (take k xs) = simp (length-drop, length-take) (omega arith) in
     sym (take-append-drop k xs) ∙ ap (λ l. take k xs ++ l) (rest ∙ ap (λ n. replicate n 0) many)
 
@@ -38,14 +28,14 @@ gets-take (suc k) i s h =
     ap (take (suc k)) (drop_more s i 0 lt) ∙ ap (λ l. get_or s i 0 ∷ l) (ap (λ n. take k (drop n s)) (add-one i) ∙ gets-take k (suc i) s (omega arith))
 
 -- A sector that ends in zeros is its first k bytes, padded.
-pub padded-gets : (k : ℕ) (s : List ℕ) → length s ≡ 512 → k ≤ 512 → all_zeros (drop k s) ≡ true → s ≡ padded (gets k 0 s)
-padded-gets k s long within zeros = padded-front k s long within zeros ∙ ap padded (gets-take k 0 s (omega arith))
+pub padded-gets : (k : ℕ) (s : List ℕ) → length s ≡ 512 → k ≤ 512 → zeros (drop k s) ≡ true → s ≡ padded (gets k 0 s)
+padded-gets k s long within clear = padded-front k s long within clear ∙ ap padded (gets-take k 0 s (omega arith))
 
 -- Fields put right behind those that a padded sector has.
 pub padded-more : (fields more : List ℕ) (a k : ℕ) → length fields ≡ a → length more ≡ k → a + k ≤ 512 → put_mid a k (padded fields) more ≡ padded (fields ++ more)
 unfolding padded
 padded-more fields more a k la lk within =
-    let zeros : drop k (drop a (fields ++ replicate (512 - length fields) 0)) ≡ replicate (512 - length (fields ++ more)) 0 =
+    let rest : drop k (drop a (fields ++ replicate (512 - length fields) 0)) ≡ replicate (512 - length (fields ++ more)) 0 =
     ap (drop k) (drop_at fields (replicate (512 - length fields) 0) a la) ∙ drop-replicate k (512 - length fields) 0
     ∙ ap (λ n. replicate n 0) (simp length-append (omega arith)) in
-    ap₂ (λ x y. x ++ (more ++ y)) (take_at fields (replicate (512 - length fields) 0) a la) zeros ∙ sym (append_assoc fields more (replicate (512 - length (fields ++ more)) 0))
+    ap₂ (λ x y. x ++ (more ++ y)) (take_at fields (replicate (512 - length fields) 0) a la) rest ∙ sym (append_assoc fields more (replicate (512 - length (fields ++ more)) 0))

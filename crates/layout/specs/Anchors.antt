@@ -5,7 +5,8 @@
 use Rattle.std.specs.Prelude.{ℕ, ◌^◌, ◌<◌, cond, ◌&&◌, List, ◌∷◌, drop, Some, None, Option, slice_index}
 use Rattle.geometry.specs.Thirds.{number_of, third_of}
 use Rattle.geometry.specs.declared.third.Third.{Third}
-use Rattle.layout.specs.Padded.{padded, all_zeros, four_bytes, number4, tag_is}
+use Rattle.names.specs.Names.{zeros}
+use Rattle.layout.specs.Padded.{padded, four_bytes, number4, tag_is}
 use Rattle.layout.specs.declared.anchor.Anchor.{Anchor}
 
 abbrev pub AnchorFits : Anchor → Type 0
@@ -20,4 +21,4 @@ anchor_at group (Some third) = Some (record { third = third; group = group })
 
 abbrev pub decode_anchor : List ℕ → Option Anchor
 decode_anchor s =
-    cond (tag_is 70 83 68 65 s && all_zeros (drop 9 s)) (anchor_at (number4 (slice_index s 5) (slice_index s 6) (slice_index s 7) (slice_index s 8)) (third_of (slice_index s 4))) None
+    cond (tag_is 70 83 68 65 s && zeros (drop 9 s)) (anchor_at (number4 (slice_index s 5) (slice_index s 6) (slice_index s 7) (slice_index s 8)) (third_of (slice_index s 4))) None

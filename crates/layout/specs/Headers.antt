@@ -6,8 +6,8 @@
 --     decode_header    the header in a sector: its letters, its edition, its zeros and its numbers are tested
 use Rattle.std.specs.Prelude.{◌≡◌, ℕ, ◌+◌, ◌*◌, ◌^◌, ◌<◌, Bool, cond, ◌&&◌, List, ◌∷◌, ◌++◌, drop, Some, None, Option, ◌==◌, nat_le, slice_index}
 use Rattle.geometry.specs.Places.{Good, data_start}
-use Rattle.layout.specs.Padded.{padded, all_zeros, four_bytes, number4, tag_is}
-use Rattle.names.specs.Names.{two_bytes}
+use Rattle.layout.specs.Padded.{padded, four_bytes, number4, tag_is}
+use Rattle.names.specs.Names.{zeros, two_bytes}
 use Rattle.layout.specs.declared.header.Header.{Header}
 
 abbrev pub HeaderFits : ℕ → Header → Type 0
@@ -24,6 +24,6 @@ header_of count p t n = cond (n == count && good_numbers p t n) (Some (record { 
 
 abbrev pub decode_header : ℕ → List ℕ → Option Header
 decode_header count s =
-    cond (tag_is 70 83 68 86 s && (slice_index s 4 == 1 && all_zeros (drop 12 s)))
+    cond (tag_is 70 83 68 86 s && (slice_index s 4 == 1 && zeros (drop 12 s)))
     (header_of count (slice_index s 5) (slice_index s 6 * 256 + slice_index s 7) (number4 (slice_index s 8) (slice_index s 9) (slice_index s 10) (slice_index s 11)))
     None

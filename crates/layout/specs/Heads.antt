@@ -6,7 +6,8 @@
 --     head_of        the head with these numbers and the bytes after them, if they are right
 --     decode_head    the head in a sector: its letters, its zeros and its page numbers are tested
 use Rattle.std.specs.Prelude.{◌≡◌, ℕ, zero, suc, ◌+◌, ◌^◌, ◌<◌, ◌≤◌, Bool, true, false, cond, ◌&&◌, List, [], ◌∷◌, ◌++◌, length, take, drop, Some, None, Option, nat_le, nat_lt, slice_index}
-use Rattle.layout.specs.Padded.{padded, all_zeros, four_bytes, number4, tag_is}
+use Rattle.names.specs.Names.{zeros}
+use Rattle.layout.specs.Padded.{padded, four_bytes, number4, tag_is}
 use Rattle.layout.specs.declared.head.RecordHead.{RecordHead}
 
 abbrev pub rises : ℕ → List ℕ → Bool
@@ -14,7 +15,7 @@ rises low [] = true
 rises low (x ∷ xs) = nat_le low x && rises (x + 1) xs
 
 unfoldable pub good_pages : ℕ → ℕ → ℕ → List ℕ → Bool
-good_pages zero low limit pages = all_zeros pages
+good_pages zero low limit pages = zeros pages
 good_pages (suc n) low limit [] = false
 good_pages (suc n) low limit (page ∷ pages) = nat_le low page && (nat_lt page limit && good_pages n (page + 1) limit pages)
 
@@ -26,7 +27,7 @@ encode_head h = padded (70 ∷ 83 ∷ 68 ∷ 72 ∷ (four_bytes h.group ++ h.cou
 
 abbrev pub head_of : ℕ → ℕ → ℕ → List ℕ → Option RecordHead
 head_of limit group count rest =
-    cond (all_zeros (drop 21 rest) && (nat_le 1 count && good_pages count 0 limit (take 21 rest)))
+    cond (zeros (drop 21 rest) && (nat_le 1 count && good_pages count 0 limit (take 21 rest)))
     (Some (record { group = group; count = count; pages = take 21 rest }))
     None
 

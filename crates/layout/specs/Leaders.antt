@@ -5,8 +5,8 @@
 --     decode_leader    the leader in a sector: its letters, its zeros, its key and its length are tested
 use Rattle.std.specs.Prelude.{◌≡◌, ℕ, ◌≤◌, true, cond, ◌&&◌, List, ◌∷◌, ◌++◌, take, drop, Some, None, Option, nat_le, slice_index}
 use Rattle.geometry.specs.Sizes.{longest}
-use Rattle.names.specs.Names.{is_key}
-use Rattle.layout.specs.Padded.{padded, all_zeros, four_bytes, number4, tag_is}
+use Rattle.names.specs.Names.{zeros, is_key}
+use Rattle.layout.specs.Padded.{padded, four_bytes, number4, tag_is}
 use Rattle.layout.specs.declared.leader.Leader.{Leader}
 
 abbrev pub LeaderFits : Leader → Type 0
@@ -20,7 +20,7 @@ length_of rest = number4 (slice_index rest 22) (slice_index rest 23) (slice_inde
 
 abbrev pub leader_of : List ℕ → Option Leader
 leader_of rest =
-    cond (all_zeros (drop 26 rest) && (nat_le (length_of rest) longest && is_key (take 22 rest))) (Some (record { key = take 22 rest; length = length_of rest })) None
+    cond (zeros (drop 26 rest) && (nat_le (length_of rest) longest && is_key (take 22 rest))) (Some (record { key = take 22 rest; length = length_of rest })) None
 
 abbrev pub decode_leader : List ℕ → Option Leader
 decode_leader s = cond (tag_is 70 83 68 76 s) (leader_of (drop 4 s)) None

@@ -1,17 +1,12 @@
 -- Fields one after the other and then zeros, in a sector of 512 bytes, and what it is to decode one.
 --     padded                 fields, and zeros up to 512
---     all_zeros              all bytes are zero
 --     four_bytes, number4    a number in four bytes, the highest first, and back
 --     tag_is                 a sector begins with four letters
 --     Decodes                a decoder's answer: what was encoded comes back, and only what was encoded is right
 use Rattle.std.specs.Prelude.{◌≡◌, ℕ, ◌+◌, ◌-◌, ◌*◌, ◌/◌, ◌%◌, Bool, ◌&&◌, List, [], ◌∷◌, ◌++◌, length, replicate, Some, Option, ◌==◌, slice_index}
-use Rattle.std.specs.List.{list_all}
 
 unfoldable pub padded : List ℕ → List ℕ
 padded fields = fields ++ replicate (512 - length fields) 0
-
-unfoldable pub all_zeros : List ℕ → Bool
-all_zeros bytes = list_all (λ b. b == 0) bytes
 
 abbrev pub four_bytes : ℕ → List ℕ
 four_bytes n = (n / 16777216 % 256) ∷ (n / 65536 % 256) ∷ (n / 256 % 256) ∷ (n % 256) ∷ []
