@@ -43,7 +43,7 @@ fn show(rt: &HostRuntime, sheets: &Sheets, failure: Failure) -> anyhow::Result<C
             Ok(trial.came)
         }
         Err(refused @ Stopped::Refused(_)) => {
-            // It read back neither sheet, so it counts as something else.
+            // No count of its own, which would be no plainer: it read back neither sheet, and that is what `other` counts.
             println!(rt; "{refused}")?;
             Ok(Came::Other)
         }

@@ -55,6 +55,7 @@ impl<D: Spoilable> Failing<D> {
         ensures layers { D.Disk.layers self.new.below ≡ D.Disk.layers self.old.below }
         ensures manner { self.new.manner ≡ self.old.manner }
     {
+        // What the disk below answers is dropped: by `cut` any answer will do, and this disk's own is 9 whatever it was.
         match self.manner {
             Manner::AsBefore => {}
             Manner::NewBytes => {

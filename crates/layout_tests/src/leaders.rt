@@ -2,7 +2,7 @@
 use crate::kinds::is_right;
 use layout::carried::Carried;
 use layout::leader::Leader;
-use padding::padded;
+use padding::fitted;
 use std::process::Abort;
 
 // The text of a name, a version, a length, and whether the leader with these is right.
@@ -27,7 +27,7 @@ const ROWS: [Row; 13] = [
 // The leader with these numbers, good or not.
 // Not by `Key::of`, which makes no key of a bad name or version.
 fn leader_of(name: &[u8], version: u16, length: u32) -> Leader {
-    let mut key: [u8; 22] = padded(&name[..name.len().min(20)]);
+    let mut key: [u8; 22] = fitted(name);
     key[20..].copy_from_slice(&version.to_be_bytes());
     Leader { key, length }
 }

@@ -34,7 +34,7 @@ pub fn replay<P: Paged>(pages: &mut [P], changes: &[Change]) -> usize
     ensures full { Stops (length pages.old) (map P.image pages.new) result changes.now }
 {
     let mut register = Register::format(pages);
-    // A loop: `position` with a closure that carries out each change was tried, and a proof then does not know what the closure left in the register.
+    // A loop: `position` with a closure that carries out each change was tried, and a proof then does not know what the closure left in the register. The refusal is dropped: it can be 5 alone, and the answer tells where.
     for (i, change) in changes.iter().enumerate() {
         if register.carry_out(change).is_err() {
             return i;

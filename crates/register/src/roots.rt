@@ -25,6 +25,7 @@ fn lowest_free(items: &[Item], pages: usize) -> usize
 }
 
 // Writes two halves of a leaf of 16 entries, and the root with one item more.
+// At most 21 pages, so that a page's number fits in an item.
 pub(crate) fn split<P: Paged>(pages: &mut [P], seat: Seat)
     requires room { length seat.items < 20 }
     requires full { length seat.leaf ≡ 16 }

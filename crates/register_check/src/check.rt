@@ -11,6 +11,7 @@ use pages::records::MOST_ITEMS;
 use refusal::Refusal;
 
 /// Whether the register on `pages`, whose files lie in an area, keeps every rule, or 13 with the first page that breaks one: the root, then the leaves in its order, then the root again if two files have a sector in common.
+// The number of pages is asked here for the reason that stands at `Register::format`.
 pub fn check<P: Paged>(pages: &[P], area: Area) -> Result<(), Refusal>
     requires { (2 ≤ length pages.now) × (length pages.now ≤ 21) }
     ensures value { result ≡ answer_of (fault area.first area.sectors (length pages.now) (map P.image pages.now)) }

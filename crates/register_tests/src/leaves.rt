@@ -39,6 +39,7 @@ const KEYS: [Row; 14] = [
     (&[(2, 276, b"\x27\x10")], Some(2)),
 ];
 
+// Not one function with that of the root, for the reason that stands at `blamed`.
 #[test]
 fn of_the_leaves(rt: HostRuntime) -> Result<(), Fail> {
     blamed(&rt, 108, &FORM)?;

@@ -46,6 +46,7 @@ const ITEMS: [Row; 14] = [
     (&[(0, 78, b"\0\x03")], Some(3)),
 ];
 
+// Not one function with that of the leaves, for the reason that stands at `blamed`.
 #[test]
 fn of_the_root(rt: HostRuntime) -> Result<(), Fail> {
     blamed(&rt, 108, &FORM)?;

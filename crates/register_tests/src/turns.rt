@@ -1,6 +1,6 @@
 // Names that begin alike, in the order of their bytes, and what the register tells of each.
 
-use crate::changes::{key, take};
+use crate::changes::{add, key, rising, take};
 use names::bound::Bound;
 use names::key::Key;
 use names::name::Name;
@@ -160,29 +160,37 @@ fn told(rt: HostRuntime) -> Result<(), Fail> {
     names_tell(&rt, &register)
 }
 
-// R1 in the versions 1 to 9 and then R2 in the versions 1 to 7, with the lengths 1 to 16: the second leaf begins with version 9 of R1.
-fn nine_and_seven(alloc: Global) -> Result<Vec<Change>, Fail> {
-    let mut changes = Vec::new(alloc);
-    for n in 1..17u16 {
-        let key = if n < 10 {
-            key(b"R1", n)?
-        } else {
-            key(b"R2", n - 9)?
-        };
-        changes.push(Change::Put {
-            key,
-            start: 1000,
-            length: u32::from(n),
-        })?;
-    }
-    Ok(changes)
+// R1 in the versions 1 to 9 and then R2 in the versions 1 to 7, with the lengths 1 to 16.
+fn nine_and_seven(n: u16) -> Result<Change, Fail> {
+    let key = if n < 10 {
+        key(b"R1", n)?
+    } else {
+        key(b"R2", n - 9)?
+    };
+    Ok(Change::Put {
+        key,
+        start: 1000,
+        length: u32::from(n),
+    })
 }
 
-// Version 9 of R1 is taken out, and its leaf then has no entry below those of R2.
+// A version of R1 is taken out.
+fn take_one(version: u16) -> Result<Change, Fail> {
+    Ok(Change::Take {
+        key: key(b"R1", version)?,
+    })
+}
+
+// The second leaf begins with version 9 of R1, which is taken out: its leaf then has no entry below those of R2.
 #[test]
 fn newest_on_the_leaf_before(rt: HostRuntime) -> Result<(), Fail> {
     let mut pages = [[0; 512]; 3];
-    let mut changes = nine_and_seven(rt.alloc())?;
+    let mut changes = Vec::new(rt.alloc());
+    add(
+        &mut changes,
+        rising(rt.alloc(), 1, 16)?.as_slice(),
+        nine_and_seven,
+    )?;
     let ninth = key(b"R1", 9)?;
     assert_eq!(rt; replay(&mut pages, changes.as_slice()), 16);
     let mut register = Register::over(&mut pages);
@@ -198,11 +206,7 @@ fn newest_on_the_leaf_before(rt: HostRuntime) -> Result<(), Fail> {
     assert_eq!(rt; highest(&look, &name), Some(8));
     assert_eq!(rt; place_of(look.above(&Bound::at(&name, 8))), Some(10));
     assert_eq!(rt; place_of(look.above(&Bound::at(&name, 9))), Some(10));
-    for version in 1..10 {
-        changes.push(Change::Take {
-            key: key(b"R1", version)?,
-        })?;
-    }
+    add(&mut changes, rising(rt.alloc(), 1, 9)?.as_slice(), take_one)?;
     assert_eq!(rt; replay(&mut pages, changes.as_slice()), 25);
     let register = Lookup::over(&pages);
     assert!(rt; register.newest(&name).is_none());
