@@ -1,0 +1,10 @@
+pub mod Words
+pub mod Cuts
+pub mod Records
+pub mod Reading
+pub mod Search
+pub mod Homes
+pub mod Volumes
+pub mod Recovery
+pub mod Forces
+pub mod Disks
