@@ -1,0 +1,6 @@
+use Rattle.std.proofs.Common.{◌≡◌, ◌++◌, map, take, drop}
+use Rattle.frames.specs.Frames.{settled}
+use Rattle.frames.proofs.table.settle.Given as goal
+
+abbrev pub invariant-loop-frame : goal.invariant-loop-frame
+invariant-loop-frame l = l.frame-items ≡ map (settled l.third) (take l.frame-index l.initial.frame-items) ++ drop l.frame-index l.initial.frame-items
