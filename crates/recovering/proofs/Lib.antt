@@ -1,0 +1,9 @@
+pub mod Grown
+pub mod Words
+pub mod TwoCopies
+pub mod Held
+pub mod HomeWrites
+pub mod HomesSoFar
+pub mod VolumeReads
+pub mod VolumeWrites
+pub mod Blank
