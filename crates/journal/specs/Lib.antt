@@ -1,0 +1,7 @@
+pub mod Calls
+pub mod Formats
+pub mod Decisions
+pub mod Books
+pub mod Runs
+pub mod Ties
+pub mod Recoveries
