@@ -1,2 +1,3 @@
 pub mod NeverOther
+pub mod SameImages
 pub mod Telling

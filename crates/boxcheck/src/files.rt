@@ -1,4 +1,7 @@
 // The register of the small volume: some files are put in, one is taken out again, and what is left is listed.
+ghost use Rattle.std.specs.Prelude.{◌≤◌, length, map};
+ghost use Rattle.register.specs.Registers.{IsRegister};
+
 use crate::lines::FileLine;
 use crate::listing::{IMAGES, PLACES};
 use anyhow::{Context, bail, ensure};
@@ -16,8 +19,8 @@ fn key(text: &[u8], version: u16) -> anyhow::Result<Key> {
     Key::of(text, version).context("a name or a version of a file is bad")
 }
 
-// A file of so many bytes is put in, from a sector on.
-fn put(text: &[u8], version: u16, start: u32, length: u32) -> anyhow::Result<Change> {
+/// A file of so many bytes is put in, from a sector on.
+pub fn put(text: &[u8], version: u16, start: u32, length: u32) -> anyhow::Result<Change> {
     Ok(Change::Put {
         key: key(text, version)?,
         start,
@@ -25,9 +28,9 @@ fn put(text: &[u8], version: u16, start: u32, length: u32) -> anyhow::Result<Cha
     })
 }
 
-// Five files are put in, and one is taken out.
+/// Five files are put in, and one is taken out.
 // No table that is mapped to changes: each of them can be refused, and a map to an array has no `?`.
-fn changes() -> anyhow::Result<[Change; 6]> {
+pub fn changes() -> anyhow::Result<[Change; 6]> {
     Ok([
         put(b"R5", 1, 60, 40)?,
         put(b"ROUND-1", 1, 63, 512)?,
@@ -57,12 +60,21 @@ fn list_files<P: Paged>(rt: &HostRuntime, register: &Lookup<'_, P>) -> anyhow::R
     Ok(entries.len())
 }
 
+/// Carries out changes on a fresh register, all of them.
+pub fn fill<P: Paged>(pages: &mut [P], changes: &[Change]) -> anyhow::Result<()>
+    requires least { 2 ≤ length pages.old }
+    requires most { length pages.old ≤ 21 }
+    ensures { IsRegister (length pages.old) (map P.image pages.new) }
+{
+    let done = replay(pages, changes);
+    ensure!(done == changes.len(), "the register is full");
+    Ok(())
+}
+
 /// Fills the register of a small volume, lists its files and checks its rules.
 pub fn show_register(rt: &HostRuntime, geometry: &Geometry) -> anyhow::Result<()> {
-    let changes = changes()?;
     let mut pages = [[0; 512]; IMAGES];
-    let done = replay(&mut pages, &changes);
-    ensure!(done == changes.len(), "the register is full");
+    fill(&mut pages, &changes()?)?;
     println!(rt; "REGISTER: five files put in, then ROUND-1.1 taken out")?;
     let files = list_files(rt, &Lookup::over(&pages))?;
     let free = PLACES.saturating_sub(files);

@@ -1,13 +1,20 @@
-// The box check: a score sheet on two sectors, through a power cut in every manner at every write, with a report for the fitter.
+// The box check: a score sheet on two sectors, through a power cut in every manner at every write, and a small volume with its journal, with a report for the fitter.
 #![tactic(auto)]
 
+mod cuts;
 mod files;
+mod groups;
+mod images;
+mod journal_lines;
+mod journal_part;
 mod lines;
 mod listing;
+mod losses;
 mod report;
 mod tally;
 mod trials;
 
+use crate::journal_part::show_journal;
 use crate::lines::{Line, Places};
 use crate::tally::Tally;
 use crate::trials::{Came, Failure, Sheets, Stopped};
@@ -121,24 +128,31 @@ fn show_sectors(rt: &HostRuntime) -> anyhow::Result<()> {
     Ok(())
 }
 
-// Shows where a small volume has what, its tagged sectors and its register.
-fn show_volume(rt: &HostRuntime) -> anyhow::Result<()> {
-    let geometry = Geometry::new(
+// The geometry of the small volume.
+fn small_volume() -> anyhow::Result<Geometry> {
+    Geometry::new(
         u32::from(listing::PAGES),
         u32::from(listing::THIRD),
         listing::SECTORS,
     )
-    .context("the numbers of the volume are bad")?;
+    .context("the numbers of the volume are bad")
+}
+
+// Shows where a small volume has what, its tagged sectors, its register and its journal, and tells whether the journal passed.
+fn show_volume(rt: &HostRuntime) -> anyhow::Result<bool> {
+    let geometry = small_volume()?;
     println!(rt; "{}", Places(geometry))?;
     show_sectors(rt)?;
     println!(rt; "")?;
-    files::show_register(rt, &geometry)
+    files::show_register(rt, &geometry)?;
+    println!(rt; "")?;
+    show_journal(rt, geometry.data_start())
 }
 
 fn main(rt: HostRuntime) -> anyhow::Result<()> {
     let passed = run(&rt)?;
     println!(rt; "")?;
-    show_volume(&rt)?;
-    ensure!(passed, "the box check did not pass");
+    let kept = show_volume(&rt)?;
+    ensure!(passed && kept, "the box check did not pass");
     Ok(())
 }
