@@ -2,13 +2,17 @@
 --     Chain          each of a list does what it does, one after the other
 --     Each           one event tells of each step and its outcome, in order
 --     Replays        the events, the run with them, and its law
+--     Lives          there is a history of them from a format on, and it is lawful
+--     FromFormat     so of a format that is done and as many steps as are answered; or the format is refused
 --     Endures        the same of steps and losses
-use Rattle.std.specs.Prelude.{◌≡◌, ℕ, List, [], ◌∷◌, ◌++◌, length}
+use Rattle.std.specs.Prelude.{◌≡◌, ℕ, List, [], ◌∷◌, ◌++◌, length, take, Ok, Err, Result}
 use Rattle.disk.specs.Sectors.{DiskState}
 use Rattle.geometry.specs.Places.{data_start}
 use Rattle.journal.specs.Books.{Event, opened, Lawful}
+use Rattle.journal.specs.Formats.{FormatDoes}
 use Rattle.journal.specs.Runs.{Run}
 use Rattle.journal.specs.declared.inner.Inner.{Inner}
+use Rattle.refusal.specs.declared.Refusal.{Refusal}
 use Rattle.replay.specs.Moves.{Tells, TellsTurn}
 use Rattle.replay.specs.declared.losses.Turn.{Turn}
 use Rattle.replay.specs.declared.steps.Outcome.{Outcome}
@@ -33,3 +37,10 @@ Replays steps outcomes i d j e = (T : ℕ) (images : List (List ℕ)) (h : List 
 abbrev pub Endures : List Turn → List Outcome → Inner → DiskState → Inner → DiskState → Type 0
 Endures turns outcomes i d j e = (T : ℕ) (images : List (List ℕ)) (h : List Event) → Run T images h i d
     → (events : List Event) × Each (TellsTurn (length images)) turns outcomes events × Run T images (h ++ events) j e × Lawful (data_start (length images) T) (opened images) (h ++ events)
+
+abbrev pub Lives : ℕ → List (List ℕ) → List Step → List Outcome → Type 0
+Lives T images steps outcomes = (events : List Event) × Each (Tells (length images)) steps outcomes events × Lawful (data_start (length images) T) (opened images) events
+
+abbrev pub FromFormat : ℕ → List (List ℕ) → List Step → List Outcome → Inner → DiskState → Result ℕ Refusal → Inner → DiskState → Type 0
+FromFormat T images steps outcomes i d (Ok n) j e = Lives T images (take n steps) (take n outcomes)
+FromFormat T images steps outcomes i d (Err x) j e = FormatDoes T images i d (Err x) j e
