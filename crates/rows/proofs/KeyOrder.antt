@@ -1,22 +1,18 @@
--- The order of keys of bytes is the one of names.
---     bytes-before     what compares two lists of bytes tells which one comes before the other
---     bytes_total      so that order is total
---     up_to-before     so as many keys are not above one by either
+-- What the order of keys of bytes says of calls that compare them.
+--     bytes_total      it is total
+--     up_to-before     as many keys are not above one by it as by the order of names
 --     ge-before        what `>=` of two arrays answers
-use Rattle.std.proofs.Common.{◌≡◌, ℕ, Bool, not, Some, List, refl, sym, ap, subst, arith}
-use Rattle.std.specs.Cmp.Lexicographic.{slice_cmp, slice_partial_cmp, lists_agrees}
-use Rattle.std.specs.Ordering.{is_lt, is_ge, is_some_and, nat_cmp}
+use Rattle.std.proofs.Common.{◌≡◌, ℕ, Bool, not, Some, List, refl, ap, arith}
+use Rattle.std.specs.Cmp.Lexicographic.{slice_cmp, slice_partial_cmp}
+use Rattle.std.specs.Ordering.{is_ge, is_some_and, nat_cmp}
 use Rattle.std.proofs.lemmas.Cmp.{same_from_slice_cmp_tested}
 use Rattle.std.proofs.lemmas.Bool.Decides.{nat_tests}
 use Rattle.names.specs.Orders.{before, Total}
-use Rattle.names.proofs.ByteOrder.{lt-before, keys-ordered}
 use Rattle.rows.specs.Lists.{comes_before, up_to}
-
-pub bytes-before : comes_before (slice_cmp nat_cmp) ≡ before
-bytes-before = λ i xs ys. lt-before xs ys (is_lt (slice_cmp nat_cmp xs ys)) (ap (is_some_and is_lt) (sym (lists_agrees (λ x y. refl) xs ys))) i
+use Rattle.rows.specs.KeysTotal.{bytes-before, keys-total}
 
 pub bytes_total : Total (comes_before (slice_cmp nat_cmp))
-bytes_total = subst Total (sym bytes-before) keys-ordered
+bytes_total = keys-total
 
 pub up_to-before : (k : List ℕ) (ks : List (List ℕ)) → up_to (comes_before (slice_cmp nat_cmp)) k ks ≡ up_to before k ks
 up_to-before k ks = ap (λ lt. up_to lt k ks) bytes-before
