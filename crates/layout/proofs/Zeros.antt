@@ -2,8 +2,12 @@
 --     padded-front                         a sector whose end is zeros is its front, padded
 --     padded-more                          more fields behind those of a padded sector
 --     gets, padded-gets                    a padded sector by its first bytes, each by itself
-use Rattle.std.proofs.Common.{◌≡◌, ℕ, zero, suc, ◌+◌, ◌-◌, ◌<◌, ◌≤◌, true, List, [], ◌∷◌, ◌++◌, length, get_or, take, drop, replicate, sym, refl, ap, ◌∙◌, ap₂, add-one, arith}
-use Rattle.std.proofs.lemmas.List.{drop_more, take-append-drop, take_at, length-drop, length-take, length-append, append_assoc, drop_at, drop-replicate}
+--     zeros-folded, rest-tested            a look at each byte, and at the bytes from a place on, is the test of zeros
+--     rest-zeros                           the test of the bytes from a place on, as many as there are
+use Rattle.std.proofs.Common.{◌≡◌, ℕ, zero, suc, ◌+◌, ◌-◌, ◌<◌, ◌≤◌, Bool, true, ◌&&◌, ◌==◌, List, [], ◌∷◌, ◌++◌, length, get_or, take, drop, replicate, sym, refl, ap, ◌∙◌, ap₂, add-one, arith}
+use Rattle.std.specs.List.{fold}
+use Rattle.std.proofs.Math.Bool.{and_assoc, and-true}
+use Rattle.std.proofs.lemmas.List.{drop_more, take_all, take-append-drop, take_at, length-drop, length-take, length-append, append_assoc, drop_at, drop-replicate}
 use borrow.Rule.Slice.PartMut.{put_mid}
 use Rattle.names.specs.Names.{zeros}
 use Rattle.names.proofs.Texts.{all-zeros}
@@ -39,3 +43,18 @@ padded-more fields more a k la lk within =
     ap (drop k) (drop_at fields (replicate (512 - length fields) 0) a la) ∙ drop-replicate k (512 - length fields) 0
     ∙ ap (λ n. replicate n 0) (simp length-append (omega arith)) in
     ap₂ (λ x y. x ++ (more ++ y)) (take_at fields (replicate (512 - length fields) 0) a la) rest ∙ sym (append_assoc fields more (replicate (512 - length (fields ++ more)) 0))
+
+zeros-from : (b : Bool) (xs : List ℕ) → fold (λ all x. all && (x == 0)) b xs ≡ (b && zeros xs)
+zeros-from b [] = sym (and-true b)
+zeros-from b (x ∷ xs) = zeros-from (b && (x == 0)) xs ∙ and_assoc b (x == 0) (zeros xs)
+
+pub zeros-folded : (xs : List ℕ) (b : Bool) → b ≡ fold (λ all x. all && (x == 0)) true xs → b ≡ zeros xs
+zeros-folded xs b e = e ∙ zeros-from true xs
+
+pub rest-zeros : (s : List ℕ) (k : ℕ) {b : Bool} → b ≡ zeros (take (length s - k) (drop k s)) → zeros (drop k s) ≡ b
+rest-zeros s k e = sym (e ∙ ap zeros (take_all (length s - k) (drop k s) (omega (arith, length-drop k s))))
+
+pub rest-tested : (s : List ℕ) (k : ℕ) (b : Bool) → b ≡ zeros (take (length s - k) (drop k s)) → b ≡ zeros (drop k s)
+rest-tested s k b e = sym (rest-zeros s k e)
+
+pub ruleset tested = (zeros-folded, rest-tested)
