@@ -8,7 +8,6 @@ use anyhow::{Context, bail, ensure};
 use geometry::geometry::Geometry;
 use names::key::Key;
 use pages::paged::Paged;
-use pages::records::Entry;
 use register::lookups::Lookup;
 use register::replay::{Change, replay};
 use register_check::check::check;
@@ -46,8 +45,8 @@ pub fn changes() -> anyhow::Result<[Change; 6]> {
 // Prints a line for each file of a register, in the order of keys, and says how many there are.
 fn list_files<P: Paged>(rt: &HostRuntime, register: &Lookup<'_, P>) -> anyhow::Result<usize> {
     println!(rt; "name                  version   start  length  page")?;
-    let entries: Vec<Entry> = register.entries().collect(rt.alloc())?;
-    for entry in &entries {
+    let mut files = 0usize;
+    for entry in register.entries() {
         let key = Key::from_bytes(&entry.key).context("a key of the register is bad")?;
         let line = FileLine {
             key,
@@ -56,8 +55,9 @@ fn list_files<P: Paged>(rt: &HostRuntime, register: &Lookup<'_, P>) -> anyhow::R
             page: register.page_of(&key),
         };
         println!(rt; "{line}")?;
+        files = files.saturating_add(1);
     }
-    Ok(entries.len())
+    Ok(files)
 }
 
 /// Carries out changes on a fresh register, all of them.
