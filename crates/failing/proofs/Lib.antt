@@ -1,1 +1,2 @@
 pub mod Probed
+pub mod Spoiled

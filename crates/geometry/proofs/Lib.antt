@@ -1,1 +1,2 @@
 pub mod OneUse
+pub mod Rounded

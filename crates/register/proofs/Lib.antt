@@ -30,3 +30,4 @@ pub mod Saying
 pub mod BySeat
 pub mod Onward
 pub mod SeatLookUps
+pub mod RootItems
